@@ -1,0 +1,17 @@
+pub mod Basics
+pub mod Walks
+pub mod Least
+pub mod Tests
+pub mod Bounds
+pub mod Processors
+pub mod Earliest
+pub mod Orders
+pub mod Latency
+pub mod Starts
+pub mod Cycles
+pub mod Graphs
+pub mod Together
+pub mod Results
+pub mod Theorems
+pub mod Example
+pub mod Needed

@@ -1,0 +1,46 @@
+-- Document 01, "Tasks, turns and edges": accepted graphs, proposals, their results, accepted proposals.
+use mathlib.Core.Bool.{Bool, not}
+use mathlib.Core.List.{List, _++_}
+use Prim.Native.Nat.{ℕ, _≤_}
+use Rattle.model.specs.Lists.{keep, keepPlaces}
+use Rattle.model.specs.Graph.{Edge, _∈_, Graph, edges, count, timeOf, WellFormed}
+use Rattle.model.specs.Paths.{NoZeroCycle, InputFree, Joined, Latency, OnCycle, OrderHeld}
+use Rattle.model.specs.Compute.{onCycle, latency}
+
+-- latency of a graph
+unfoldable pub latencyOf : Graph → ℕ
+unfolding latency
+latencyOf g = latency (count g) (edges g) (timeOf g) (g .output)
+
+-- "Every call that takes a graph runs its checks up to 12; a graph that passes them is accepted."
+pub record AcceptedGraph (g : Graph) : Type 0 where
+  pub formed : WellFormed g
+  pub no-zero-cycle : NoZeroCycle (edges g)
+  pub input-free : InputFree (edges g) (g .input)
+  pub joined : Joined (edges g) (g .input) (g .output)
+  pub bound-met : (l : ℕ) × Latency (edges g) (timeOf g) (g .output) l × (l ≤ g .bound)
+
+-- g with the synchronization edges at the marked places (from 0) dropped, all at once
+unfoldable pub dropping : Graph → (ℕ → Bool) → Graph
+unfolding keepPlaces
+dropping g marked =
+    record { tasks = g .tasks; syncs = keepPlaces (λ i. not (marked i)) 0 (g .syncs); input = g .input; output = g .output; bound = g .bound }
+
+-- feedback, as a test (`feedback-is` proves that it is the meaning)
+unfoldable pub isFeedback : Graph → Edge → Bool
+unfolding onCycle
+isFeedback g e = onCycle (count g) (edges g) e
+
+-- "A proposal is a set of 0 to 256 synchronization edges. Its result keeps all processor and feedback edges, drops all feedforward
+-- edges and adds the proposed ones." "A result has its graph's tasks, estimated times, latency input, latency output and bound."
+unfoldable pub result : Graph → List Edge → Graph
+unfolding keep isFeedback
+result g proposed =
+    record { tasks = g .tasks; syncs = keep (isFeedback g) (g .syncs) ++ proposed; input = g .input; output = g .output; bound = g .bound }
+
+-- "It is accepted if no proposed edge lies on a cycle of the result, every original edge's ends have in the result a least delay at
+-- most that edge's own, and the result's latency is at most the bound."
+pub record AcceptedProposal (g : Graph) (proposed : List Edge) : Type 0 where
+  pub off-cycles : (e : Edge) → e ∈ proposed → OnCycle (edges (result g proposed)) e → ⊥
+  pub orders : (e : Edge) → e ∈ edges g → OrderHeld (edges (result g proposed)) e
+  pub in-time : (l : ℕ) × Latency (edges (result g proposed)) (timeOf g) (g .output) l × (l ≤ g .bound)
