@@ -10,7 +10,7 @@ use native.Mathlib.Omega.{arith}
 use lib.Dec.{T, T-not, not-T, eqb, eqb→eq, eqb-refl}
 use lib.ListN.{length}
 use Rattle.model.specs.Lists.{sumOver, always, sumBelow}
-use Rattle.model.specs.Graph.{Edge, _∈_, Ends}
+use Rattle.model.specs.Tasks.{Edge, _∈_, Ends}
 use Rattle.model.specs.Paths.{total, Walk, stop, step, Path, smallest, timesAlong}
 use Rattle.model.specs.Compute.{zeroPath}
 use Rattle.model.specs.Theorems.{LeastBound, ZeroSumBound}

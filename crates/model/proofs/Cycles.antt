@@ -1,7 +1,7 @@
 -- Two edge lists that share every edge on a cycle of either have the same cycles: each edge of a cycle lies on a cycle, so the cycle is
 -- carried over edge by edge.
 use mathlib.Core.List.{List}
-use Rattle.model.specs.Graph.{Edge, _∈_}
+use Rattle.model.specs.Tasks.{Edge, _∈_}
 use Rattle.model.specs.Paths.{Cycle, cycle, OnCycle, NoZeroCycle, SameCycles}
 use Rattle.model.proofs.Walks.{walk-re-base}
 

@@ -8,7 +8,7 @@ use native.Mathlib.Nat.{le-refl, le-trans, le-antisymm, not-suc-le-zero, mul-le-
 use native.Mathlib.Omega.{arith}
 use lib.Dec.{T, not-T, eqb, eqb→eq, eqb-refl, ltb, ltb→lt, lt→ltb}
 use Rattle.model.specs.Lists.{keep, biggest, sumOver}
-use Rattle.model.specs.Graph.{Edge, _∈_, Ends}
+use Rattle.model.specs.Tasks.{Edge, _∈_, Ends}
 use Rattle.model.specs.Paths.{total, Walk, stop, step, Path, NoZeroCycle}
 use Rattle.model.specs.Runs.{Times, ends, AtLeastOne, Keeps, Allows, NeverStalls, Earliest}
 use Rattle.model.specs.Compute.{zeroPath, binds, due, begin, earliest}

@@ -6,10 +6,12 @@ use mathlib.Core.List.{List}
 use Prim.Native.Nat.{ℕ, _≤_, _<_}
 use lib.Dec.{T, T-not, eqb, leb, ltb, ltb→lt, leb→le, lit<, lit≤}
 use Rattle.model.specs.Lists.{tabulate, every}
-use Rattle.model.specs.Graph.{Edge, _∈_, Ends, Distinct, processorOf, processorEdges, edges, timeOf, WellFormedEdges, WellFormed}
+use Rattle.model.specs.Tasks.{Edge, _∈_, Ends, Distinct, processorOf}
+use Rattle.model.specs.Processors.{processorEdges}
+use Rattle.model.specs.Graph.{edges, timeOf, WellFormedEdges, WellFormed}
 use Rattle.model.specs.Paths.{NoZeroCycle, Serial, OrderHeld}
-use Rattle.model.specs.Compute.{leastDelay, isRedundant, onCycle, zeroCycle, orderHolds, inputFree, joined, distinct, earliest}
-use Rattle.model.specs.Proposals.{AcceptedGraph, AcceptedProposal, result, dropping, latencyOf}
+use Rattle.model.specs.Compute.{leastDelay, isRedundant, onCycle, zeroCycle, orderHolds, inputFree, joined, distinct, earliest, latencyOf}
+use Rattle.model.specs.Proposals.{AcceptedGraph, AcceptedProposal, result, dropping}
 use Rattle.model.specs.Theorems.{Resynchronizes}
 use Rattle.model.specs.Example.{desk, proposal, DeskDelays, DeskEdges, DeskRedundant, DeskLatency, DeskStarts, DeskResult, ResultLatency}
 use Rattle.model.proofs.Basics.{all-below, every-out, eq→eqb, and-left, and-right}

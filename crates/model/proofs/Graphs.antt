@@ -6,10 +6,11 @@ use Prim.Native.Nat.{ℕ, _≤_, _<_}
 use native.Mathlib.Omega.{arith}
 use lib.ListN.{length}
 use Rattle.model.specs.Lists.{without}
-use Rattle.model.specs.Graph.{Edge, _∈_, Ends, Graph, count, edges, processorEdges, WellFormedEdges}
+use Rattle.model.specs.Tasks.{Edge, _∈_, Ends}
+use Rattle.model.specs.Processors.{processorEdges}
+use Rattle.model.specs.Graph.{Graph, count, edges, WellFormedEdges}
 use Rattle.model.specs.Paths.{edgesWithout, syncAt, Feedback}
-use Rattle.model.specs.Compute.{isRedundant}
-use Rattle.model.specs.Proposals.{isFeedback}
+use Rattle.model.specs.Compute.{isRedundant, isFeedback}
 use Rattle.model.specs.Theorems.{RedundantIs, FeedbackIs, GraphSerial}
 use Rattle.model.proofs.Basics.{without-member}
 use Rattle.model.proofs.Walks.{path-re-base, back-cycle}

@@ -8,7 +8,7 @@ use native.Mathlib.Nat.{le-refl, le-trans, le-antisymm}
 use native.Mathlib.Omega.{arith}
 use lib.Dec.{T}
 use Rattle.model.specs.Lists.{keep, biggest}
-use Rattle.model.specs.Graph.{Edge, _∈_, Ends}
+use Rattle.model.specs.Tasks.{Edge, _∈_, Ends}
 use Rattle.model.specs.Paths.{total, Walk, stop, step, ZeroWalk, timesAlong, Latency}
 use Rattle.model.specs.Runs.{Times, ends, Earliest, estimates}
 use Rattle.model.specs.Compute.{binds, due, begin, earliest, latency}

@@ -10,7 +10,7 @@ use native.Mathlib.Nat.{le-refl, le-trans, le-antisymm, add-zero, min-eq-left, m
 use native.Mathlib.Omega.{arith}
 use lib.Dec.{eqb, eqb→eq}
 use Rattle.model.specs.Lists.{keep}
-use Rattle.model.specs.Graph.{Edge, _∈_, Ends}
+use Rattle.model.specs.Tasks.{Edge, _∈_, Ends}
 use Rattle.model.specs.Paths.{total, Walk, stop, step, Path, Least, smallest, no-path}
 use Rattle.model.specs.Compute.{least, plus, shortest, joins, through, leastDelay}
 use Rattle.model.specs.Theorems.{Within, within, LeastDelayIs, RowLeast}

@@ -1,13 +1,14 @@
 -- Two hypotheses that the theorems cannot do without, each shown by a counterexample: no two equal edges, for dropping redundant edges
 -- together; and the tasks' own cycles, for the orders.
-use mathlib.Core.Path.{_≡_, refl, sym, subst}
-use mathlib.Core.Bool.{Bool}
+use mathlib.Core.Path.{refl, sym, subst}
 use mathlib.Core.List.{List, [], _∷_, List·Memᴰ·head as here}
-use Prim.Native.Nat.{ℕ, zero, suc, _+_, _≤_, _<_}
+use Prim.Native.Nat.{zero, suc, _+_, _≤_}
 use native.Mathlib.Omega.{arith}
 use lib.Dec.{lit<, lit≤}
 use Rattle.model.specs.Lists.{every, always, keepPlaces}
-use Rattle.model.specs.Graph.{Edge, _∈_, Ends, processorEdges, edges}
+use Rattle.model.specs.Tasks.{Edge, _∈_, Ends}
+use Rattle.model.specs.Processors.{processorEdges}
+use Rattle.model.specs.Graph.{edges}
 use Rattle.model.specs.Paths.{NoZeroCycle, OrderHeld}
 use Rattle.model.specs.Runs.{Times, Keeps, Allows}
 use Rattle.model.specs.Compute.{isRedundant, orderHolds, zeroCycle}

@@ -10,7 +10,7 @@ use native.Mathlib.Nat.{le-refl, le-trans}
 use native.Mathlib.Omega.{arith}
 use lib.Dec.{T, not-T, eqb, eqb→eq, eqb-refl}
 use Rattle.model.specs.Lists.{keep, biggest, counted}
-use Rattle.model.specs.Graph.{Edge, _∈_, Ends}
+use Rattle.model.specs.Tasks.{Edge, _∈_, Ends}
 use Rattle.model.specs.Paths.{Path, OrderHeld, NoZeroCycle, Serial}
 use Rattle.model.specs.Runs.{Times, ends, Keeps, Allows, Breaks}
 use Rattle.model.specs.Compute.{binds, due, begin, earliest}

@@ -11,7 +11,8 @@ use native.Mathlib.Omega.{arith}
 use lib.Dec.{T, T-not, eqb, eqb→eq}
 use lib.ListN.{length}
 use Rattle.model.specs.Lists.{firstFrom}
-use Rattle.model.specs.Graph.{Task, Edge, _∈_, Ends, processorOf, Next, Last, First, ProcessorEdge, onward, around, onProcessorOf, aroundTo, onwardTo, processorEdge, processorEdges}
+use Rattle.model.specs.Tasks.{Task, Edge, _∈_, Ends, processorOf, Next, Last, First, ProcessorEdge, onward, around}
+use Rattle.model.specs.Processors.{onProcessorOf, aroundTo, onwardTo, processorEdge, processorEdges}
 use Rattle.model.specs.Paths.{Path}
 use Rattle.model.specs.Theorems.{ProcessorEdgesAre}
 use Rattle.model.proofs.Basics.{eq→eqb, order, FirstFrom, found, missing, first-from, tabulate-in, tabulate-out}

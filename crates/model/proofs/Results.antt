@@ -3,15 +3,26 @@
 use mathlib.Core.Logic.{_⊎_, inl, inr}
 use mathlib.Core.List.{List, _++_, Memᴰ·append-left, Memᴰ·append-right, List·Memᴰ·append-cases}
 use Prim.Native.Nat.{_<_}
-use Rattle.model.specs.Lists.{keep}
-use Rattle.model.specs.Graph.{Edge, _∈_, Ends, Graph, count, edges, processorEdges}
+use Rattle.model.specs.Compute.{isFeedback}
+use Rattle.model.specs.Tasks.{Edge, _∈_, Ends}
+use Rattle.model.specs.Processors.{processorEdges}
+use Rattle.model.specs.Graph.{Graph, count, edges}
 use Rattle.model.specs.Paths.{OnCycle, Feedback, NoZeroCycle, SameCycles, Serial}
-use Rattle.model.specs.Proposals.{isFeedback, result}
+use Rattle.model.specs.Proposals.{feedbackEdges, result}
 use Rattle.model.proofs.Basics.{keep-in, keep-out}
 use Rattle.model.proofs.Walks.{cycle-back}
 use Rattle.model.proofs.Tests.{decides-true}
 use Rattle.model.proofs.Cycles.{same-cycles, same-acyclic}
 use Rattle.model.proofs.Graphs.{edge-cases, processor-edge-in, sync-edge-in, graph-ends, graph-serial, feedback-decides}
+
+feedback-out : (g : Graph) → Ends (count g) (g .syncs) → {e : Edge} → e ∈ feedbackEdges g → e ∈ g .syncs × Feedback g e
+unfolding feedbackEdges
+feedback-out g bounds {e} m =
+    let r = keep-out (isFeedback g) (g .syncs) m in (r .0, (feedback-decides g bounds e (sync-edge-in g (r .0))) .if-true (r .1))
+
+feedback-in : (g : Graph) → Ends (count g) (g .syncs) → {e : Edge} → e ∈ g .syncs → Feedback g e → e ∈ feedbackEdges g
+unfolding feedbackEdges
+feedback-in g bounds {e} m f = keep-in (isFeedback g) m (decides-true (feedback-decides g bounds e (sync-edge-in g m)) f)
 
 -- where an edge of the result comes from
 pub result-cases : (g : Graph) → Ends (count g) (g .syncs) → (proposed : List Edge) {e : Edge} → e ∈ edges (result g proposed) →
@@ -19,27 +30,26 @@ pub result-cases : (g : Graph) → Ends (count g) (g .syncs) → (proposed : Lis
 unfolding result
 result-cases g bounds proposed {e} m = go (edge-cases (result g proposed) m)
   where
-    kept : e ∈ keep (isFeedback g) (g .syncs) ⊎ e ∈ proposed → e ∈ processorEdges (g .tasks) ⊎ ((e ∈ g .syncs × Feedback g e) ⊎ e ∈ proposed)
-    kept (inl k) = let r = keep-out (isFeedback g) (g .syncs) k in inr (inl (r .0, (feedback-decides g bounds e (sync-edge-in g (r .0))) .if-true (r .1)))
+    kept : e ∈ feedbackEdges g ⊎ e ∈ proposed → e ∈ processorEdges (g .tasks) ⊎ ((e ∈ g .syncs × Feedback g e) ⊎ e ∈ proposed)
+    kept (inl k) = inr (inl (feedback-out g bounds k))
     kept (inr k) = inr (inr k)
 
-    go : e ∈ processorEdges (g .tasks) ⊎ e ∈ keep (isFeedback g) (g .syncs) ++ proposed → e ∈ processorEdges (g .tasks) ⊎ ((e ∈ g .syncs × Feedback g e) ⊎ e ∈ proposed)
+    go : e ∈ processorEdges (g .tasks) ⊎ e ∈ feedbackEdges g ++ proposed → e ∈ processorEdges (g .tasks) ⊎ ((e ∈ g .syncs × Feedback g e) ⊎ e ∈ proposed)
     go (inl k) = inl k
-    go (inr k) = kept (List·Memᴰ·append-cases (keep (isFeedback g) (g .syncs)) k)
+    go (inr k) = kept (List·Memᴰ·append-cases (feedbackEdges g) k)
 
 pub result-processor : (g : Graph) (proposed : List Edge) {e : Edge} → e ∈ processorEdges (g .tasks) → e ∈ edges (result g proposed)
 unfolding result
 result-processor g proposed m = processor-edge-in (result g proposed) m
 
-pub result-feedback : (g : Graph) → Ends (count g) (g .syncs) → (proposed : List Edge) {e : Edge} → e ∈ g .syncs → Feedback g e → e ∈ edges (result g proposed)
+pub result-feedback : (g : Graph) → Ends (count g) (g .syncs) → (proposed : List Edge) {e : Edge} → e ∈ g .syncs → Feedback g e →
+    e ∈ edges (result g proposed)
 unfolding result
-result-feedback g bounds proposed {e} m f =
-    sync-edge-in (result g proposed)
-    (Memᴰ·append-left proposed (keep-in (isFeedback g) m (decides-true (feedback-decides g bounds e (sync-edge-in g m)) f)))
+result-feedback g bounds proposed m f = sync-edge-in (result g proposed) (Memᴰ·append-left proposed (feedback-in g bounds m f))
 
 pub result-proposed : (g : Graph) (proposed : List Edge) {e : Edge} → e ∈ proposed → e ∈ edges (result g proposed)
 unfolding result
-result-proposed g proposed m = sync-edge-in (result g proposed) (Memᴰ·append-right (keep (isFeedback g) (g .syncs)) m)
+result-proposed g proposed m = sync-edge-in (result g proposed) (Memᴰ·append-right (feedbackEdges g) m)
 
 module _ (g : Graph) (bounds : Ends (count g) (g .syncs)) (proposed : List Edge) (ends : Ends (count g) proposed) where
   pub result-ends : Ends (count g) (edges (result g proposed))

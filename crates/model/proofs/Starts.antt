@@ -7,7 +7,7 @@ use Prim.Native.Nat.{ℕ, suc, _+_, _-_, _*_, _≤_, _<_}
 use native.Mathlib.Nat.{le-refl, mul-le-mul-right, suc-mul}
 use native.Mathlib.Omega.{arith}
 use Rattle.model.specs.Lists.{sumBelow}
-use Rattle.model.specs.Graph.{Edge, _∈_, Ends}
+use Rattle.model.specs.Tasks.{Edge, _∈_, Ends}
 use Rattle.model.specs.Paths.{NoZeroCycle}
 use Rattle.model.specs.Runs.{Times, ends, Keeps, Allows, estimates}
 use Rattle.model.specs.Compute.{earliest, latency}

@@ -9,7 +9,7 @@ use native.Mathlib.Nat.{le-trans}
 use native.Mathlib.Omega.{arith}
 use lib.Dec.{T, T-not, not-T, eqb, eqb→eq, leb→le, le→leb, ltb, ltb→lt, lt→ltb}
 use Rattle.model.specs.Lists.{keep, every, anyBelow}
-use Rattle.model.specs.Graph.{Edge, _∈_, Ends}
+use Rattle.model.specs.Tasks.{Edge, _∈_, Ends}
 use Rattle.model.specs.Paths.{Path, Least, smallest, no-path, OrderHeld, OnCycle, ZeroCycle, InputFree, Joined}
 use Rattle.model.specs.Compute.{atMost, present, orderHolds, onCycle, zeroPath, zeroCycle, intoAtOnce, some-of, inputFree, joined, sameEdge, distinct}
 use Rattle.model.specs.Theorems.{Decides, DistinctIs, InputFreeIs}

@@ -4,12 +4,14 @@ use mathlib.Core.Logic.{_⊎_, inl, inr}
 use mathlib.Core.List.{List}
 use Prim.Native.Nat.{ℕ, _<_}
 use native.Mathlib.Nat.{le-refl, le-trans}
-use Rattle.model.specs.Graph.{Edge, _∈_, Graph, count, edges, timeOf, processorEdges, ProcessorEdge}
+use Rattle.model.specs.Tasks.{Edge, _∈_, ProcessorEdge}
+use Rattle.model.specs.Processors.{processorEdges}
+use Rattle.model.specs.Graph.{Graph, count, edges, timeOf}
 use Rattle.model.specs.Paths.{NoZeroCycle, Feedback, Latency}
 use Rattle.model.specs.Runs.{Times, ends, Earliest, estimates, MissesBound}
-use Rattle.model.specs.Compute.{earliest}
-use Rattle.model.specs.Proposals.{result, latencyOf}
-use Rattle.model.specs.Theorems.{LeastDelayIs, LeastUnique, RowLeast, OrderHoldsIs, OnCycleIs, ZeroCycleIs, InputFreeIs, JoinedIs, DistinctIs, RedundantIs, FeedbackIs, WithinProcessor, ProcessorEdgesAre, GraphSerial, EarliestRun, EarliestUnique, EarliestReached, NeverStallsIff, OrdersIff, OrderLost, LostIff, LatencyIs, LatencyUnique, FirstOutput, FirstOutputExact, MissesBoundIff, ResultEdges, ResultDrops, OffCycles, ResultCycles, ResultNeverStalls, ResultOrders, ResultLost, AcceptedResult, DroppedTogether, LeastBound, ZeroSumBound, StartBound}
+use Rattle.model.specs.Compute.{earliest, latencyOf}
+use Rattle.model.specs.Proposals.{result}
+use Rattle.model.specs.Theorems.{LeastDelayIs, LeastUnique, RowLeast, OrderHoldsIs, OnCycleIs, ZeroCycleIs, InputFreeIs, JoinedIs, DistinctIs, RedundantIs, FeedbackIs, WithinProcessor, ProcessorEdgesAre, GraphSerial, EarliestRun, EarliestUnique, EarliestReached, NeverStallsIff, OrdersIff, OrderLost, LostIff, LatencyIs, LatencyUnique, FirstOutput, FirstOutputExact, MissesBoundIff, ResultEdges, ResultDrops, OffCycles, ResultCycles, ResultNeverStalls, ResultOrders, ResultLost, ResultMisses, AcceptedResult, DroppedTogether, LeastBound, ZeroSumBound, StartBound}
 use Rattle.model.proofs.Walks.{path-re-base, back-cycle}
 use Rattle.model.proofs.Least
 use Rattle.model.proofs.Tests
@@ -168,6 +170,12 @@ result-orders g proposed h =
 pub result-lost : ResultLost
 result-lost g proposed h =
     Orders.lost-iff (result-ends g (h .sync-ends) proposed (h .proposed-ends)) (result-serial g (h .sync-ends) proposed (h .proposed-ends)) (acyclic-result g proposed h)
+
+pub result-misses : ResultMisses
+unfolding result timeOf
+result-misses g proposed h long o =
+    misses-bound-iff (result g proposed) (λ e m. result-ends g (h .sync-ends) proposed (h .proposed-ends) e (Graphs.sync-edge-in (result g proposed) m))
+    (acyclic-result g proposed h) long o
 
 pub accepted-result : AcceptedResult
 accepted-result g proposed graph formed accepted =

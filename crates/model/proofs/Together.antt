@@ -11,7 +11,9 @@ use native.Mathlib.Omega.{arith}
 use lib.Dec.{T}
 use lib.ListN.{length, getD}
 use Rattle.model.specs.Lists.{without, keepPlaces}
-use Rattle.model.specs.Graph.{Edge, _∈_, Ends, Distinct, Graph, count, edges, processorEdges, noEdge}
+use Rattle.model.specs.Tasks.{Edge, _∈_, Ends, Distinct, noEdge}
+use Rattle.model.specs.Processors.{processorEdges}
+use Rattle.model.specs.Graph.{Graph, count, edges}
 use Rattle.model.specs.Paths.{total, Walk, stop, step, Path, OrderHeld, Redundant, edgesWithout, syncAt, NoZeroCycle}
 use Rattle.model.specs.Proposals.{dropping}
 use Rattle.model.proofs.Basics.{cases, order, member-place, place-member, places-in, places-out}

@@ -7,7 +7,8 @@ use Prim.Native.Nat.{ℕ, zero, suc, _+_, _-_, _*_, min}
 use lib.Dec.{leb, ltb, eqb}
 use lib.ListN.{length}
 use Rattle.model.specs.Lists.{keep, every, biggest, anyBelow}
-use Rattle.model.specs.Graph.{Edge, Graph, count}
+use Rattle.model.specs.Tasks.{Edge}
+use Rattle.model.specs.Graph.{Graph, count, edges, timeOf}
 use Rattle.model.specs.Paths.{edgesWithout, syncAt}
 use Rattle.model.specs.Runs.{Times, ends, estimates}
 
@@ -63,6 +64,11 @@ isRedundant g i = ltb i (length (g .syncs)) && orderHolds (count g) (edgesWithou
 unfoldable pub onCycle : ℕ → List Edge → Edge → Bool
 unfolding present leastDelay
 onCycle n es e = present (leastDelay n es (e .sink) (e .source))
+
+-- an edge of g is feedback
+unfoldable pub isFeedback : Graph → Edge → Bool
+unfolding onCycle
+isFeedback g e = onCycle (count g) (edges g) e
 
 -- a path of delay 0 leads from a to b
 unfoldable pub zeroPath : ℕ → List Edge → ℕ → ℕ → Bool
@@ -122,3 +128,8 @@ earliest n es dur v k = begin es dur (suc n * suc k) v k
 unfoldable pub latency : ℕ → List Edge → (ℕ → ℕ) → ℕ → ℕ
 unfolding earliest
 latency n es time output = ends (earliest n es (estimates time)) (estimates time) output 1
+
+-- latency of a graph
+unfoldable pub latencyOf : Graph → ℕ
+unfolding latency
+latencyOf g = latency (count g) (edges g) (timeOf g) (g .output)

@@ -5,11 +5,12 @@ use mathlib.Core.List.{List, [], _∷_}
 use mathlib.Core.Option.{Option, none, some}
 use Prim.Native.Nat.{ℕ, suc}
 use Rattle.model.specs.Lists.{tabulate, always}
-use Rattle.model.specs.Graph.{Task, Edge, _∈_, Ends, Graph, edges, count, timeOf}
+use Rattle.model.specs.Tasks.{Task, Edge, _∈_, Ends}
+use Rattle.model.specs.Graph.{Graph, edges, count, timeOf}
 use Rattle.model.specs.Paths.{NoZeroCycle, OrderHeld, Redundant}
 use Rattle.model.specs.Runs.{Times, Allows, estimates}
-use Rattle.model.specs.Compute.{leastDelay, isRedundant, earliest}
-use Rattle.model.specs.Proposals.{result, dropping, latencyOf}
+use Rattle.model.specs.Compute.{leastDelay, isRedundant, earliest, latencyOf}
+use Rattle.model.specs.Proposals.{result, dropping}
 
 abbrev pub task : ℕ → ℕ → Task
 task p t = record { processor = p; time = t }

@@ -1,5 +1,8 @@
--- What a reader must believe: Graph, Paths, Runs, Proposals. What computes the same numbers: Lists, Compute. What is proved: Theorems.
+-- What a reader must believe: Tasks, Graph, Paths, Runs, Proposals. What is proved of it: Theorems. The example desk: Example.
+-- What only computes, and is proved to be what the others mean: Lists, Processors, Compute.
 pub mod Lists
+pub mod Tasks
+pub mod Processors
 pub mod Graph
 pub mod Paths
 pub mod Runs

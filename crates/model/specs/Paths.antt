@@ -7,7 +7,9 @@ use mathlib.Core.Option.{Option, none, some}
 use Prim.Native.Nat.{ℕ, _+_, _≤_, _<_}
 use lib.ListN.{length, getD}
 use Rattle.model.specs.Lists.{without}
-use Rattle.model.specs.Graph.{Edge, _∈_, Graph, processorEdges, edges, noEdge}
+use Rattle.model.specs.Tasks.{Edge, _∈_, noEdge}
+use Rattle.model.specs.Processors.{processorEdges}
+use Rattle.model.specs.Graph.{Graph, edges}
 
 -- sum of delays along a list of edges (000, formula (1))
 unfoldable pub total : List Edge → ℕ

@@ -3,14 +3,10 @@ use mathlib.Core.Bool.{Bool, not}
 use mathlib.Core.List.{List, _++_}
 use Prim.Native.Nat.{ℕ, _≤_}
 use Rattle.model.specs.Lists.{keep, keepPlaces}
-use Rattle.model.specs.Graph.{Edge, _∈_, Graph, edges, count, timeOf, WellFormed}
+use Rattle.model.specs.Tasks.{Edge, _∈_}
+use Rattle.model.specs.Graph.{Graph, edges, timeOf, WellFormed}
 use Rattle.model.specs.Paths.{NoZeroCycle, InputFree, Joined, Latency, OnCycle, OrderHeld}
-use Rattle.model.specs.Compute.{onCycle, latency}
-
--- latency of a graph
-unfoldable pub latencyOf : Graph → ℕ
-unfolding latency
-latencyOf g = latency (count g) (edges g) (timeOf g) (g .output)
+use Rattle.model.specs.Compute.{isFeedback}
 
 -- "Every call that takes a graph runs its checks up to 12; a graph that passes them is accepted."
 pub record AcceptedGraph (g : Graph) : Type 0 where
@@ -26,17 +22,17 @@ unfolding keepPlaces
 dropping g marked =
     record { tasks = g .tasks; syncs = keepPlaces (λ i. not (marked i)) 0 (g .syncs); input = g .input; output = g .output; bound = g .bound }
 
--- feedback, as a test (`feedback-is` proves that it is the meaning)
-unfoldable pub isFeedback : Graph → Edge → Bool
-unfolding onCycle
-isFeedback g e = onCycle (count g) (edges g) e
+-- the synchronization edges that every result keeps, in the file's sequence
+unfoldable pub feedbackEdges : Graph → List Edge
+unfolding keep isFeedback
+feedbackEdges g = keep (isFeedback g) (g .syncs)
 
 -- "A proposal is a set of 0 to 256 synchronization edges. Its result keeps all processor and feedback edges, drops all feedforward
 -- edges and adds the proposed ones." "A result has its graph's tasks, estimated times, latency input, latency output and bound."
 unfoldable pub result : Graph → List Edge → Graph
-unfolding keep isFeedback
+unfolding feedbackEdges
 result g proposed =
-    record { tasks = g .tasks; syncs = keep (isFeedback g) (g .syncs) ++ proposed; input = g .input; output = g .output; bound = g .bound }
+    record { tasks = g .tasks; syncs = feedbackEdges g ++ proposed; input = g .input; output = g .output; bound = g .bound }
 
 -- "It is accepted if no proposed edge lies on a cycle of the result, every original edge's ends have in the result a least delay at
 -- most that edge's own, and the result's latency is at most the bound."

@@ -1,7 +1,8 @@
 -- Document 01, "Tasks, turns and edges": runs, what a graph allows, stalls, the earliest run, missing the bound.
 use mathlib.Core.List.{List}
 use Prim.Native.Nat.{ℕ, _+_, _-_, _≤_, _<_}
-use Rattle.model.specs.Graph.{Edge, _∈_, Graph, edges, count, timeOf}
+use Rattle.model.specs.Tasks.{Edge, _∈_}
+use Rattle.model.specs.Graph.{Graph, edges, count, timeOf}
 
 -- starts, or durations: a whole number for every task and turn. "Turns count from 1."
 abbrev pub Times : Type 0

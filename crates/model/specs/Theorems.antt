@@ -8,11 +8,13 @@ use Prim.Native.Nat.{ℕ, suc, _+_, _*_, _≤_, _<_}
 use lib.Dec.{T}
 use lib.ListN.{length}
 use Rattle.model.specs.Lists.{sumBelow}
-use Rattle.model.specs.Graph.{Edge, _∈_, Ends, Distinct, Task, processorOf, ProcessorEdge, processorEdges, Graph, count, edges, timeOf, WellFormedEdges}
+use Rattle.model.specs.Tasks.{Edge, _∈_, Ends, Distinct, Task, processorOf, ProcessorEdge}
+use Rattle.model.specs.Processors.{processorEdges}
+use Rattle.model.specs.Graph.{Graph, count, edges, timeOf, WellFormedEdges}
 use Rattle.model.specs.Paths.{Path, Least, OrderHeld, Redundant, OnCycle, Feedback, Feedforward, ZeroCycle, NoZeroCycle, SameCycles, ZeroWalk, timesAlong, Latency, InputFree, Joined, Serial}
 use Rattle.model.specs.Runs.{Times, ends, AtLeastOne, Keeps, Allows, Breaks, NeverStalls, Earliest, estimates, MissesBound}
-use Rattle.model.specs.Compute.{leastDelay, orderHolds, isRedundant, onCycle, zeroCycle, inputFree, joined, distinct, earliest, latency}
-use Rattle.model.specs.Proposals.{isFeedback, result, dropping, AcceptedGraph, AcceptedProposal, latencyOf}
+use Rattle.model.specs.Compute.{leastDelay, orderHolds, isRedundant, onCycle, zeroCycle, inputFree, joined, distinct, earliest, latency, isFeedback, latencyOf}
+use Rattle.model.specs.Proposals.{result, dropping, AcceptedGraph, AcceptedProposal}
 
 -- The test b decides p: where it is true p holds, and where it is false p does not.
 pub record Decides (b : Bool) (p : Type 0) : Type 0 where
@@ -163,7 +165,7 @@ WithinProcessor =
     (g : Graph) (proposed : List Edge) → Ends (count g) proposed → (e : Edge) → e ∈ proposed →
     processorOf (g .tasks) (e .source) ≡ processorOf (g .tasks) (e .sink) → OnCycle (edges (result g proposed)) e
 
--- What the four theorems below assume: ends that are tasks, no zero-delay cycle in the original, no proposed edge on a cycle of the result.
+-- What the next five theorems assume: ends that are tasks, no zero-delay cycle in the original, no proposed edge on a cycle of the result.
 pub record OffCycles (g : Graph) (proposed : List Edge) : Type 0 where
   pub sync-ends : Ends (count g) (g .syncs)
   pub proposed-ends : Ends (count g) proposed
@@ -187,6 +189,11 @@ ResultLost =
     (g : Graph) (proposed : List Edge) → OffCycles g proposed →
     ((e : Edge) × e ∈ edges g × (OrderHeld (edges (result g proposed)) e → ⊥)) ↔
     ((K : ℕ) × (start : Times) × (dur : Times) × Allows (count g) (edges (result g proposed)) K start dur × Breaks (count g) (edges g) K start dur)
+
+abbrev pub ResultMisses : Type 0
+ResultMisses =
+    (g : Graph) (proposed : List Edge) → OffCycles g proposed → ((v : ℕ) → v < count g → 1 ≤ timeOf g v) → g .output < count g →
+    MissesBound (result g proposed) ↔ (g .bound < latencyOf (result g proposed))
 
 -- Demand 3 for the result of an accepted proposal: the original allows every run that the result allows; the result never stalls, has the
 -- same cycles, and in its earliest run the output's first turn ends by the bound, whatever later turns take, if no first turn exceeds its
