@@ -117,6 +117,14 @@ module _ {A : Type 0} where
   without-member (suc i) (x ∷ xs) (here q) = here q
   without-member (suc i) (x ∷ xs) (there m) = there (without-member i xs m)
 
+  pub without-other : (i : ℕ) {e : A} (xs : List A) (x₀ : A) → (e ≡ getD xs i x₀ → ⊥) → List·Memᴰ e xs → List·Memᴰ e (without i xs)
+  unfolding without
+  without-other i [] x₀ h m = m
+  without-other zero (x ∷ xs) x₀ h (here q) = absurd (h q)
+  without-other zero (x ∷ xs) x₀ h (there m) = m
+  without-other (suc i) (x ∷ xs) x₀ h (here q) = here q
+  without-other (suc i) (x ∷ xs) x₀ h (there m) = there (without-other i xs x₀ h m)
+
   pub places-in : (t : ℕ → Bool) (k : ℕ) (xs : List A) (i : ℕ) (x₀ : A) → i < length xs → T (t (k + i)) → List·Memᴰ (getD xs i x₀) (keepPlaces t k xs)
   unfolding keepPlaces
   places-in t k [] i x₀ h p = absurd (not-suc-le-zero h)

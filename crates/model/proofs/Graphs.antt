@@ -1,18 +1,18 @@
 -- The theorems on edge lists, for the edges of a graph: their ends are tasks, and the processor edges make it serial.
-use mathlib.Core.Path.{sym}
+use mathlib.Core.Path.{_≡_, sym}
 use mathlib.Core.Logic.{_⊎_, inl, inr}
-use mathlib.Core.List.{Memᴰ·append-left, Memᴰ·append-right, List·Memᴰ·append-cases}
+use mathlib.Core.List.{_++_, Memᴰ·append-left, Memᴰ·append-right, List·Memᴰ·append-cases}
 use Prim.Native.Nat.{ℕ, _≤_, _<_}
 use native.Mathlib.Omega.{arith}
 use lib.ListN.{length}
 use Rattle.model.specs.Lists.{without}
-use Rattle.model.specs.Tasks.{Edge, _∈_, Ends}
+use Rattle.model.specs.Tasks.{Edge, _∈_, Ends, noEdge}
 use Rattle.model.specs.Processors.{processorEdges}
 use Rattle.model.specs.Graph.{Graph, count, edges, WellFormedEdges}
 use Rattle.model.specs.Paths.{edgesWithout, syncAt, Feedback}
 use Rattle.model.specs.Compute.{isRedundant, isFeedback}
 use Rattle.model.specs.Theorems.{RedundantIs, FeedbackIs, GraphSerial}
-use Rattle.model.proofs.Basics.{without-member}
+use Rattle.model.proofs.Basics.{without-member, without-other}
 use Rattle.model.proofs.Walks.{path-re-base, back-cycle}
 use Rattle.model.proofs.Processors.{processor-ends, processor-same, processor-delay, processor-around, processor-serial}
 use Rattle.model.proofs.Tests.{decides-and, ltb-decides, order-holds, on-cycle}
@@ -67,6 +67,15 @@ without-in g i {e} m = go (without-cases g i m)
     go : e ∈ processorEdges (g .tasks) ⊎ e ∈ without i (g .syncs) → e ∈ edges g
     go (inl k) = processor-edge-in g k
     go (inr k) = sync-edge-in g (without-member i (g .syncs) k)
+
+-- an edge other than the one at place i stays
+pub without-stays : (g : Graph) (i : ℕ) {e : Edge} → e ∈ edges g → (e ≡ syncAt g i → ⊥) → e ∈ edgesWithout g i
+unfolding edgesWithout syncAt
+without-stays g i {e} m other = go (edge-cases g m)
+  where
+    go : e ∈ processorEdges (g .tasks) ⊎ e ∈ g .syncs → e ∈ processorEdges (g .tasks) ++ without i (g .syncs)
+    go (inl k) = Memᴰ·append-left (without i (g .syncs)) k
+    go (inr k) = Memᴰ·append-right (processorEdges (g .tasks)) (without-other i (g .syncs) noEdge other k)
 
 pub redundant-decides : RedundantIs
 unfolding isRedundant

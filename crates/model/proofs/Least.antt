@@ -12,7 +12,7 @@ use lib.Dec.{eqb, eqb→eq}
 use Rattle.model.specs.Lists.{keep}
 use Rattle.model.specs.Tasks.{Edge, _∈_, Ends}
 use Rattle.model.specs.Paths.{total, Walk, stop, step, Path, Least, smallest, no-path}
-use Rattle.model.specs.Compute.{least, plus, shortest, joins, through, leastDelay}
+use Rattle.model.specs.Compute.{lesser, plus, shortest, joins, through, leastDelay}
 use Rattle.model.specs.Theorems.{Within, within, LeastDelayIs, RowLeast}
 use Rattle.model.proofs.Basics.{keep-in, keep-out, and-left, and-right, and-both, eq→eqb, below-suc, order}
 use Rattle.model.proofs.Walks.{path-edge, path-append, path-ends, path-delay}
@@ -25,15 +25,15 @@ data Sound (es : List Edge) (a b : ℕ) : Option ℕ → Type 0 where
 -- ── Sound ──
 
 module _ {es : List Edge} where
-  least-sound : {a b : ℕ} {x y : Option ℕ} → Sound es a b x → Sound es a b y → Sound es a b (least x y)
-  unfolding least
-  least-sound {a} {b} (sound {d = x} p) (sound {d = y} q) = go (order x y)
+  lesser-sound : {a b : ℕ} {x y : Option ℕ} → Sound es a b x → Sound es a b y → Sound es a b (lesser x y)
+  unfolding lesser
+  lesser-sound {a} {b} (sound {d = x} p) (sound {d = y} q) = go (order x y)
     where
       go : (x ≤ y) ⊎ (y < x) → Sound es a b (some (min x y))
       go (inl h) = sound (path-delay (sym (min-eq-left h)) p)
       go (inr h) = let h′ : y ≤ x = omega arith in sound (path-delay (sym (min-eq-right h′)) q)
-  least-sound (sound p) nothing = sound p
-  least-sound nothing q = q
+  lesser-sound (sound p) nothing = sound p
+  lesser-sound nothing q = q
 
   plus-sound : {a b c : ℕ} {x y : Option ℕ} → Sound es a b x → Sound es b c y → Sound es a c (plus x y)
   unfolding plus
@@ -44,7 +44,7 @@ module _ {es : List Edge} where
   shortest-sound : {a b : ℕ} (xs : List Edge) → ((e : Edge) → e ∈ xs → Path es a b (e .delay)) → Sound es a b (shortest xs)
   unfolding shortest
   shortest-sound [] h = nothing
-  shortest-sound (e ∷ xs) h = least-sound (sound (h e (here refl))) (shortest-sound xs (λ f m. h f (there m)))
+  shortest-sound (e ∷ xs) h = lesser-sound (sound (h e (here refl))) (shortest-sound xs (λ f m. h f (there m)))
 
 through-sound : (es : List Edge) (k a b : ℕ) → Sound es a b (through es k a b)
 unfolding through
@@ -56,20 +56,20 @@ through-sound es zero a b = shortest-sound (keep (joins a b) es) direct
         let s = eqb→eq (e .source) a (and-left (eqb (e .source) a) (eqb (e .sink) b) (r .1)) in
         let t = eqb→eq (e .sink) b (and-right (eqb (e .source) a) (eqb (e .sink) b) (r .1)) in
         path-ends s t (path-edge (r .0))
-through-sound es (suc k) a b = least-sound (through-sound es k a b) (plus-sound (through-sound es k a k) (through-sound es k k b))
+through-sound es (suc k) a b = lesser-sound (through-sound es k a b) (plus-sound (through-sound es k a k) (through-sound es k k b))
 
 -- ── Complete ──
 
 within-mono : {o : Option ℕ} {d d′ : ℕ} → Within o d → d ≤ d′ → Within o d′
 within-mono (within h) l = within (le-trans h l)
 
-within-left : {x : Option ℕ} (y : Option ℕ) {d : ℕ} → Within x d → Within (least x y) d
-unfolding least
+within-left : {x : Option ℕ} (y : Option ℕ) {d : ℕ} → Within x d → Within (lesser x y) d
+unfolding lesser
 within-left (some y) (within {x = x} h) = within (le-trans (min-le-left x y) h)
 within-left none (within h) = within h
 
-within-right : (x : Option ℕ) {y : Option ℕ} {d : ℕ} → Within y d → Within (least x y) d
-unfolding least
+within-right : (x : Option ℕ) {y : Option ℕ} {d : ℕ} → Within y d → Within (lesser x y) d
+unfolding lesser
 within-right (some x) (within {x = y} h) = within (le-trans (min-le-right x y) h)
 within-right none (within h) = within h
 
@@ -114,7 +114,7 @@ module _ {es : List Edge} where
   through-complete (suc k) {a} {b} {d} v = go (λ x y z w. through-complete k w) (cut v)
     where
       go : ((x y z : ℕ) → Via es k x y z → Within (through es k x y) z) → Via es k a b d ⊎ Cut es k a b d →
-          Within (least (through es k a b) (plus (through es k a k) (through es k k b))) d
+          Within (lesser (through es k a b) (plus (through es k a k) (through es k k b))) d
       go ih (inl w) = within-left (plus (through es k a k) (through es k k b)) (ih a b d w)
       go ih (inr c) = within-right (through es k a b) (within-mono (within-plus (ih a k (c .0) (c .2)) (ih k b (c .1) (c .3))) (c .4))
 

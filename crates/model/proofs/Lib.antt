@@ -11,6 +11,7 @@ pub mod Starts
 pub mod Cycles
 pub mod Graphs
 pub mod Together
+pub mod Redundant
 pub mod Results
 pub mod Theorems
 pub mod Example

@@ -3,7 +3,6 @@
 use mathlib.Core.Logic.{_⊎_, inl, inr}
 use mathlib.Core.List.{List, _++_, Memᴰ·append-left, Memᴰ·append-right, List·Memᴰ·append-cases}
 use Prim.Native.Nat.{_<_}
-use Rattle.model.specs.Compute.{isFeedback}
 use Rattle.model.specs.Tasks.{Edge, _∈_, Ends}
 use Rattle.model.specs.Processors.{processorEdges}
 use Rattle.model.specs.Graph.{Graph, count, edges}
@@ -18,11 +17,11 @@ use Rattle.model.proofs.Graphs.{edge-cases, processor-edge-in, sync-edg
 feedback-out : (g : Graph) → Ends (count g) (g .syncs) → {e : Edge} → e ∈ feedbackEdges g → e ∈ g .syncs × Feedback g e
 unfolding feedbackEdges
 feedback-out g bounds {e} m =
-    let r = keep-out (isFeedback g) (g .syncs) m in (r .0, (feedback-decides g bounds e (sync-edge-in g (r .0))) .if-true (r .1))
+    let r = keep-out _ (g .syncs) m in (r .0, (feedback-decides g bounds e (sync-edge-in g (r .0))) .if-true (r .1))
 
 feedback-in : (g : Graph) → Ends (count g) (g .syncs) → {e : Edge} → e ∈ g .syncs → Feedback g e → e ∈ feedbackEdges g
 unfolding feedbackEdges
-feedback-in g bounds {e} m f = keep-in (isFeedback g) m (decides-true (feedback-decides g bounds e (sync-edge-in g m)) f)
+feedback-in g bounds {e} m f = keep-in _ m (decides-true (feedback-decides g bounds e (sync-edge-in g m)) f)
 
 -- where an edge of the result comes from
 pub result-cases : (g : Graph) → Ends (count g) (g .syncs) → (proposed : List Edge) {e : Edge} → e ∈ edges (result g proposed) →

@@ -11,7 +11,7 @@ use lib.Dec.{T, T-not, not-T, eqb, eqb→eq, leb→le, le→leb, ltb, ltb→lt, 
 use Rattle.model.specs.Lists.{keep, every, anyBelow}
 use Rattle.model.specs.Tasks.{Edge, _∈_, Ends}
 use Rattle.model.specs.Paths.{Path, Least, smallest, no-path, OrderHeld, OnCycle, ZeroCycle, InputFree, Joined}
-use Rattle.model.specs.Compute.{atMost, present, orderHolds, onCycle, zeroPath, zeroCycle, intoAtOnce, some-of, inputFree, joined, sameEdge, distinct}
+use Rattle.model.specs.Compute.{atMost, present, orderHolds, onCycle, zeroPath, zeroCycle, intoAtOnce, nonEmpty, inputFree, joined, sameEdge, distinct}
 use Rattle.model.specs.Theorems.{Decides, DistinctIs, InputFreeIs}
 use Rattle.model.proofs.Basics.{cases, every-in, every-out, keep-in, keep-out, and-left, and-right, and-both, eq→eqb, any-in, any-out}
 use Rattle.model.proofs.Walks.{edge-equal, path-delay, path-start-below, cycle-back, back-cycle, path-cycle, cycle-path}
@@ -159,7 +159,7 @@ pub input-free : InputFreeIs
 unfolding inputFree
 input-free es v = go (decides-not (some-decides (keep (intoAtOnce v) es)))
   where
-    some-decides : (xs : List Edge) → Decides (some-of xs) ((e : Edge) × e ∈ xs)
+    some-decides : (xs : List Edge) → Decides (nonEmpty xs) ((e : Edge) × e ∈ xs)
     some-decides [] = decides-iff (λ t. absurd t) (λ x. elim (x .1) [ ])
     some-decides (e ∷ xs) = decides-iff (λ t. (e, here refl)) (λ x. tt)
 

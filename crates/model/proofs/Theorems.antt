@@ -11,7 +11,7 @@ use Rattle.model.specs.Paths.{NoZeroCycle, Feedback, Latency}
 use Rattle.model.specs.Runs.{Times, ends, Earliest, estimates, MissesBound}
 use Rattle.model.specs.Compute.{earliest, latencyOf}
 use Rattle.model.specs.Proposals.{result}
-use Rattle.model.specs.Theorems.{LeastDelayIs, LeastUnique, RowLeast, OrderHoldsIs, OnCycleIs, ZeroCycleIs, InputFreeIs, JoinedIs, DistinctIs, RedundantIs, FeedbackIs, WithinProcessor, ProcessorEdgesAre, GraphSerial, EarliestRun, EarliestUnique, EarliestReached, NeverStallsIff, OrdersIff, OrderLost, LostIff, LatencyIs, LatencyUnique, FirstOutput, FirstOutputExact, MissesBoundIff, ResultEdges, ResultDrops, OffCycles, ResultCycles, ResultNeverStalls, ResultOrders, ResultLost, ResultMisses, AcceptedResult, DroppedTogether, LeastBound, ZeroSumBound, StartBound}
+use Rattle.model.specs.Theorems.{LeastDelayIs, LeastUnique, RowLeast, OrderHoldsIs, OnCycleIs, ZeroCycleIs, InputFreeIs, JoinedIs, DistinctIs, RedundantIs, FeedbackIs, WithinProcessor, ProcessorEdgesAre, GraphSerial, EarliestRun, EarliestUnique, EarliestReached, NeverStallsIff, OrdersIff, OrderLost, LostIff, LatencyIs, LatencyUnique, FirstOutput, FirstOutputExact, MissesBoundIff, ResultEdges, ResultDrops, OffCycles, ResultCycles, ResultNeverStalls, ResultOrders, ResultLost, ResultMisses, AcceptedResult, DroppedTogether, RedundantByTable, LeastBound, ZeroSumBound, StartBound}
 use Rattle.model.proofs.Walks.{path-re-base, back-cycle}
 use Rattle.model.proofs.Least
 use Rattle.model.proofs.Tests
@@ -23,6 +23,7 @@ use Rattle.model.proofs.Latency
 use Rattle.model.proofs.Starts
 use Rattle.model.proofs.Graphs
 use Rattle.model.proofs.Together
+use Rattle.model.proofs.Redundant
 use Rattle.model.proofs.Results.{result-cases, result-processor, result-feedback, result-proposed, result-ends, result-serial, result-same-cycles, result-acyclic}
 
 -- ── 1. Least delays ──
@@ -201,6 +202,9 @@ accepted-result g proposed graph formed accepted =
 
 pub dropped-together : DroppedTogether
 dropped-together = Together.dropped-together
+
+pub redundant-by-table : RedundantByTable
+redundant-by-table = Redundant.redundant-by-table
 
 -- ── Bounds ──
 

@@ -75,15 +75,18 @@ module _ {es : List Edge} where
 
   -- cut a walk at one of its edges
   pub walk-split : {a b : ℕ} {p : List Edge} {e : Edge} → Walk es a p b → e ∈ p →
-      (e ∈ es) × (before : List Edge) × (after : List Edge) × Walk es a before (e .source) × Walk es (e .sink) after b
+      (e ∈ es) × (before : List Edge) × (after : List Edge) × Walk es a before (e .source) × Walk es (e .sink) after b ×
+      (total p ≡ total before + (e .delay + total after))
+  unfolding total
   walk-split {b = b} {e = e} (step {e = x} {p = p} m s w) (here q) = (
     subst (λ (y : Edge). y ∈ es) (sym q) m,
     [],
     p,
     stop (sym s ∙ ap {B = ℕ} (λ (y : Edge). y .source) (sym q)),
     subst (λ (y : Edge). Walk es (y .sink) p b) (sym q) w,
+    let d = ap {B = ℕ} (λ (y : Edge). y .delay) q in omega arith,
   )
-  walk-split (step {e = x} m s w) (there k) = let r = walk-split w k in (r .0, x ∷ r .1, r .2, step m s (r .3), r .4)
+  walk-split (step {e = x} m s w) (there k) = let r = walk-split w k in let sum = r .5 in (r .0, x ∷ r .1, r .2, step m s (r .3), r .4, omega arith)
 
   -- an edge lies on a cycle exactly if a path leads from its sink back to its source
   pub cycle-back : {e : Edge} → OnCycle es e → (e ∈ es) × (d : ℕ) × Path es (e .sink) (e .source) d

@@ -12,40 +12,45 @@ use Rattle.model.specs.Graph.{Graph, count, edges, timeOf}
 use Rattle.model.specs.Paths.{edgesWithout, syncAt}
 use Rattle.model.specs.Runs.{Times, ends, estimates}
 
--- none counts as larger than every number
-unfoldable pub least : Option ℕ → Option ℕ → Option ℕ
-least (some a) (some b) = some (min a b)
-least (some a) none = some a
-least none y = y
+-- the smaller of two delays; none counts as larger than every number
+unfoldable pub lesser : Option ℕ → Option ℕ → Option ℕ
+lesser (some a) (some b) = some (min a b)
+lesser (some a) none = some a
+lesser none y = y
 
+-- the delay of two paths, one after the other; none if either is
 unfoldable pub plus : Option ℕ → Option ℕ → Option ℕ
 plus (some a) (some b) = some (a + b)
 plus (some a) none = none
 plus none y = none
 
+-- the smallest delay of a list of edges
 unfoldable pub shortest : List Edge → Option ℕ
-unfolding least
+unfolding lesser
 shortest [] = none
-shortest (e ∷ es) = least (some (e .delay)) (shortest es)
+shortest (e ∷ es) = lesser (some (e .delay)) (shortest es)
 
+-- e leads from a to b
 unfoldable pub joins : ℕ → ℕ → Edge → Bool
 joins a b e = eqb (e .source) a && eqb (e .sink) b
 
 -- least delay from a to b over the paths whose inner tasks are below k
 unfoldable pub through : List Edge → ℕ → ℕ → ℕ → Option ℕ
-unfolding shortest keep joins least plus
+unfolding shortest keep joins lesser plus
 through es zero a b = shortest (keep (joins a b) es)
-through es (suc k) a b = least (through es k a b) (plus (through es k a k) (through es k k b))
+through es (suc k) a b = lesser (through es k a b) (plus (through es k a k) (through es k k b))
 
 -- least delay from a to b in a graph of n tasks
 unfoldable pub leastDelay : ℕ → List Edge → ℕ → ℕ → Option ℕ
 unfolding through
 leastDelay n es a b = through es n a b
 
+-- a delay is at most k
 unfoldable pub atMost : Option ℕ → ℕ → Bool
 atMost (some d) k = leb d k
 atMost none k = false
 
+-- there is a delay
 unfoldable pub present : Option ℕ → Bool
 present (some d) = true
 present none = false
@@ -75,22 +80,25 @@ unfoldable pub zeroPath : ℕ → List Edge → ℕ → ℕ → Bool
 unfolding atMost leastDelay
 zeroPath n es a b = atMost (leastDelay n es a b) 0
 
+-- there is a cycle of delay 0
 unfoldable pub zeroCycle : ℕ → List Edge → Bool
 unfolding anyBelow zeroPath
 zeroCycle n es = anyBelow n (λ v. zeroPath n es v v)
 
+-- e leads to v with delay 0
 unfoldable pub intoAtOnce : ℕ → Edge → Bool
 intoAtOnce v e = eqb (e .sink) v && eqb (e .delay) 0
 
-unfoldable pub some-of : List Edge → Bool
-some-of [] = false
-some-of (e ∷ es) = true
+unfoldable pub nonEmpty : List Edge → Bool
+nonEmpty [] = false
+nonEmpty (e ∷ es) = true
 
 -- no edge of delay 0 leads to the latency input
 unfoldable pub inputFree : List Edge → ℕ → Bool
-unfolding keep intoAtOnce some-of
-inputFree es input = not (some-of (keep (intoAtOnce input) es))
+unfolding keep intoAtOnce nonEmpty
+inputFree es input = not (nonEmpty (keep (intoAtOnce input) es))
 
+-- input and output differ, and a path of delay 0 leads from one to the other
 unfoldable pub joined : ℕ → List Edge → ℕ → ℕ → Bool
 unfolding zeroPath
 joined n es input output = not (eqb input output) && zeroPath n es input output

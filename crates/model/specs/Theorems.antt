@@ -11,7 +11,7 @@ use Rattle.model.specs.Lists.{sumBelow}
 use Rattle.model.specs.Tasks.{Edge, _∈_, Ends, Distinct, Task, processorOf, ProcessorEdge}
 use Rattle.model.specs.Processors.{processorEdges}
 use Rattle.model.specs.Graph.{Graph, count, edges, timeOf, WellFormedEdges}
-use Rattle.model.specs.Paths.{Path, Least, OrderHeld, Redundant, OnCycle, Feedback, Feedforward, ZeroCycle, NoZeroCycle, SameCycles, ZeroWalk, timesAlong, Latency, InputFree, Joined, Serial}
+use Rattle.model.specs.Paths.{Path, Least, OrderHeld, edgesWithout, syncAt, Redundant, OnCycle, Feedback, Feedforward, ZeroCycle, NoZeroCycle, SameCycles, ZeroWalk, timesAlong, Latency, InputFree, Joined, Serial}
 use Rattle.model.specs.Runs.{Times, ends, AtLeastOne, Keeps, Allows, Breaks, NeverStalls, Earliest, estimates, MissesBound}
 use Rattle.model.specs.Compute.{leastDelay, orderHolds, isRedundant, onCycle, zeroCycle, inputFree, joined, distinct, earliest, latency, isFeedback, latencyOf}
 use Rattle.model.specs.Proposals.{result, dropping, AcceptedGraph, AcceptedProposal}
@@ -217,6 +217,16 @@ abbrev pub DroppedTogether : Type 0
 DroppedTogether =
     (g : Graph) → Ends (count g) (g .syncs) → NoZeroCycle (edges g) → Distinct (g .syncs) → (marked : ℕ → Bool) →
     ((i : ℕ) → i < length (g .syncs) → T (marked i) → Redundant g i) → (e : Edge) → e ∈ edges g → OrderHeld (edges (dropping g marked)) e
+
+-- One table of least delays serves every edge: in a graph without zero-delay cycle, an edge is redundant exactly if another edge out of its
+-- source leads to its sink, alone or followed by a path of the whole graph, within its delay.
+abbrev pub RedundantByTable : Type 0
+RedundantByTable =
+    (g : Graph) → Ends (count g) (g .syncs) → NoZeroCycle (edges g) → (i : ℕ) → i < length (g .syncs) →
+    Redundant g i ↔
+    ((f : Edge) × f ∈ edgesWithout g i × (f .source ≡ (syncAt g i) .source) ×
+    (((f .sink ≡ (syncAt g i) .sink) × (f .delay ≤ (syncAt g i) .delay)) ⊎
+    ((d : ℕ) × Least (edges g) (f .sink) ((syncAt g i) .sink) (some d) × (f .delay + d ≤ (syncAt g i) .delay))))
 
 -- ── Bounds ──
 
