@@ -13,6 +13,7 @@ pub mod Graphs
 pub mod Together
 pub mod Redundant
 pub mod Results
+pub mod Accepted
 pub mod Theorems
 pub mod Example
 pub mod Needed

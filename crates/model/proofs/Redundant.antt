@@ -9,28 +9,22 @@ use native.Mathlib.Omega.{arith}
 use Rattle.model.specs.Tasks.{Edge, _∈_, Ends}
 use Rattle.model.specs.Graph.{Graph, count, edges}
 use Rattle.model.specs.Paths.{total, Walk, step, Path, Least, smallest, no-path, edgesWithout, syncAt, Redundant, OrderHeld, NoZeroCycle}
-use Rattle.model.specs.Theorems.{RedundantByTable}
+use Rattle.model.specs.Theorems.{OtherWay, RedundantByTable}
 use Rattle.model.proofs.Walks.{walk-path, walk-split, walk-re-base, path-re-base, path-then-walk, path-edge, path-cycle, path-ends, path-delay}
 use Rattle.model.proofs.Least.{least-delay}
 use Rattle.model.proofs.Tests.{held-path, path-held}
 use Rattle.model.proofs.Graphs.{graph-ends, without-in, without-stays}
-
--- what the table shows of the edge e: another edge out of its source, to its sink alone or followed by a least path, within its delay
-Shown : Graph → ℕ → Edge → Type 0
-Shown g i e =
-    (f : Edge) × f ∈ edgesWithout g i × (f .source ≡ e .source) ×
-    (((f .sink ≡ e .sink) × (f .delay ≤ e .delay)) ⊎ ((d : ℕ) × Least (edges g) (f .sink) (e .sink) (some d) × (f .delay + d ≤ e .delay)))
 
 module _ (g : Graph) (bounds : Ends (count g) (g .syncs)) (i : ℕ) where
   within-bounds : Ends (count g) (edgesWithout g i)
   within-bounds e m = graph-ends g bounds e (without-in g i m)
 
   -- the first edge of a bypass, and a least path for the rest of it
-  shown : (e : Edge) {d : ℕ} → Path (edgesWithout g i) (e .source) (e .sink) d → d ≤ e .delay → Shown g i e
-  unfolding Shown total
-  shown e {d} r l = from (r .walk) (r .sum)
+  other-way : (e : Edge) {d : ℕ} → Path (edgesWithout g i) (e .source) (e .sink) d → d ≤ e .delay → OtherWay g i e
+  unfolding total
+  other-way e {d} r l = from (r .walk) (r .sum)
     where
-      from : {f : Edge} {p : List Edge} → Walk (edgesWithout g i) (e .source) (f ∷ p) (e .sink) → f .delay + total p ≡ d → Shown g i e
+      from : {f : Edge} {p : List Edge} → Walk (edgesWithout g i) (e .source) (f ∷ p) (e .sink) → f .delay + total p ≡ d → OtherWay g i e
       from (step {e = f} {p = p} m s w) q = (f, m, s, rest (walk-path w))
         where
           least-within : {o : Option ℕ} → Least (edges g) (f .sink) (e .sink) o → Path (edges g) (f .sink) (e .sink) (total p) →
@@ -65,16 +59,15 @@ module _ (g : Graph) (bounds : Ends (count g) (g .syncs)) (i : ℕ) where
         path-ends source refl (path-delay (ap (λ (y : ℕ). f .delay + y) sum) (path-then-walk (path-edge out) kept))
 
 pub redundant-by-table : RedundantByTable
-unfolding Shown
 redundant-by-table g bounds acyclic i l = (to, from)
   where
     e : Edge
     e = syncAt g i
 
-    to : Redundant g i → Shown g i e
-    to h = let r = held-path (h .1) in shown g bounds i e (r .1) (r .2)
+    to : Redundant g i → OtherWay g i e
+    to h = let r = held-path (h .1) in other-way g bounds i e (r .1) (r .2)
 
-    from : Shown g i e → Redundant g i
+    from : OtherWay g i e → Redundant g i
     from x = (l, held (x .3))
       where
         f : Edge

@@ -1,18 +1,21 @@
--- The result of a proposal whose edges lie on no cycle of it: the same cycles, never stalls, and it keeps the original's orders exactly if
--- the original allows all its runs.
+-- What the result of a proposal holds, and that it has the same cycles if no proposed edge lies on one: an edge on a cycle of either is kept,
+-- so it is an edge of both.
+use mathlib.Core.Path.{sym}
 use mathlib.Core.Logic.{_⊎_, inl, inr}
 use mathlib.Core.List.{List, _++_, Memᴰ·append-left, Memᴰ·append-right, List·Memᴰ·append-cases}
 use Prim.Native.Nat.{_<_}
-use Rattle.model.specs.Tasks.{Edge, _∈_, Ends}
+use Rattle.model.specs.Tasks.{ProcessorEdge, Edge, _∈_, Ends}
 use Rattle.model.specs.Processors.{processorEdges}
 use Rattle.model.specs.Graph.{Graph, count, edges}
 use Rattle.model.specs.Paths.{OnCycle, Feedback, NoZeroCycle, SameCycles, Serial}
 use Rattle.model.specs.Proposals.{feedbackEdges, result}
+use Rattle.model.specs.Theorems.{ResultEdges, ResultDrops, WithinProcessor, ResultCycles}
+use Rattle.model.proofs.Processors.{processor-edges, processor-around}
 use Rattle.model.proofs.Basics.{keep-in, keep-out}
-use Rattle.model.proofs.Walks.{cycle-back}
+use Rattle.model.proofs.Walks.{cycle-back, back-cycle, path-re-base}
 use Rattle.model.proofs.Tests.{decides-true}
 use Rattle.model.proofs.Cycles.{same-cycles, same-acyclic}
-use Rattle.model.proofs.Graphs.{edge-cases, processor-edge-in, sync-edge-in, graph-ends, graph-serial, feedback-decides}
+use Rattle.model.proofs.Graphs.{processor-feedback, edge-cases, processor-edge-in, sync-edge-in, graph-ends, graph-serial, feedback-decides}
 
 feedback-out : (g : Graph) → Ends (count g) (g .syncs) → {e : Edge} → e ∈ feedbackEdges g → e ∈ g .syncs × Feedback g e
 unfolding feedbackEdges
@@ -85,3 +88,38 @@ module _ (g : Graph) (bounds : Ends (count g) (g .syncs)) (proposed : List Edge)
 
     pub result-acyclic : NoZeroCycle (edges g) → NoZeroCycle (edges (result g proposed))
     result-acyclic acyclic = same-acyclic result-same-cycles acyclic
+
+-- ── The statements ──
+
+pub result-edges : ResultEdges
+result-edges g bounds proposed e = (from, into)
+  where
+    from : e ∈ edges (result g proposed) → ProcessorEdge (g .tasks) e ⊎ ((e ∈ g .syncs × Feedback g e) ⊎ e ∈ proposed)
+    from m = go (result-cases g bounds proposed m)
+      where
+        go : e ∈ processorEdges (g .tasks) ⊎ ((e ∈ g .syncs × Feedback g e) ⊎ e ∈ proposed) → ProcessorEdge (g .tasks) e ⊎ ((e ∈ g .syncs × Feedback g e) ⊎ e ∈ proposed)
+        go (inl k) = inl ((processor-edges (g .tasks) e) .0 k)
+        go (inr k) = inr k
+
+    into : ProcessorEdge (g .tasks) e ⊎ ((e ∈ g .syncs × Feedback g e) ⊎ e ∈ proposed) → e ∈ edges (result g proposed)
+    into (inl k) = result-processor g proposed ((processor-edges (g .tasks) e) .1 k)
+    into (inr (inl k)) = result-feedback g bounds proposed (k .0) (k .1)
+    into (inr (inr k)) = result-proposed g proposed k
+
+pub result-drops : ResultDrops
+result-drops g bounds proposed e forward m = go (result-cases g bounds proposed m)
+  where
+    go : e ∈ processorEdges (g .tasks) ⊎ ((e ∈ g .syncs × Feedback g e) ⊎ e ∈ proposed) → e ∈ proposed
+    go (inl k) = absurd (forward (processor-feedback g k))
+    go (inr (inl k)) = absurd (forward (k .1))
+    go (inr (inr k)) = k
+
+pub within-processor : WithinProcessor
+unfolding result
+within-processor g proposed bounds e m same =
+    let l = bounds e m in
+    back-cycle (result-proposed g proposed m)
+    (path-re-base (λ f k. result-processor g proposed k) (processor-around (g .tasks) (e .sink) (e .source) (l .1) (l .0) (sym same)))
+
+pub result-cycles : ResultCycles
+result-cycles g proposed h = result-same-cycles g (h .sync-ends) proposed (h .proposed-ends) (h .off-cycles)

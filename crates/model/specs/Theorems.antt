@@ -210,6 +210,16 @@ abbrev pub AcceptedResult : Type 0
 AcceptedResult =
     (g : Graph) (proposed : List Edge) → AcceptedGraph g → WellFormedEdges (count g) proposed → AcceptedProposal g proposed → Resynchronizes g (result g proposed)
 
+-- A well-formed proposal whose edges lie on no cycle of its result is accepted exactly if the original allows every run that the result
+-- allows and the result does not miss the bound at the estimates.
+abbrev pub AcceptedIff : Type 0
+AcceptedIff =
+    (g : Graph) (proposed : List Edge) → AcceptedGraph g → WellFormedEdges (count g) proposed →
+    ((e : Edge) → e ∈ proposed → OnCycle (edges (result g proposed)) e → ⊥) →
+    AcceptedProposal g proposed ↔
+    (((K : ℕ) (start dur : Times) → Allows (count g) (edges (result g proposed)) K start dur → Allows (count g) (edges g) K start dur) ×
+    (MissesBound (result g proposed) → ⊥))
+
 -- ── 7. Redundant edges, dropped together ──
 
 -- Whatever redundant edges are dropped at once, every order of the graph is still held.
@@ -218,15 +228,17 @@ DroppedTogether =
     (g : Graph) → Ends (count g) (g .syncs) → NoZeroCycle (edges g) → Distinct (g .syncs) → (marked : ℕ → Bool) →
     ((i : ℕ) → i < length (g .syncs) → T (marked i) → Redundant g i) → (e : Edge) → e ∈ edges g → OrderHeld (edges (dropping g marked)) e
 
--- One table of least delays serves every edge: in a graph without zero-delay cycle, an edge is redundant exactly if another edge out of its
--- source leads to its sink, alone or followed by a path of the whole graph, within its delay.
+-- An edge out of the source of e, other than the one at place i, leads to the sink of e, alone or followed by a least path of the whole graph,
+-- within the delay of e.
+abbrev pub OtherWay : Graph → ℕ → Edge → Type 0
+OtherWay g i e =
+    (f : Edge) × f ∈ edgesWithout g i × (f .source ≡ e .source) ×
+    (((f .sink ≡ e .sink) × (f .delay ≤ e .delay)) ⊎ ((d : ℕ) × Least (edges g) (f .sink) (e .sink) (some d) × (f .delay + d ≤ e .delay)))
+
+-- One table of least delays serves every edge: in a graph without zero-delay cycle an edge is redundant exactly if there is such another way.
 abbrev pub RedundantByTable : Type 0
 RedundantByTable =
-    (g : Graph) → Ends (count g) (g .syncs) → NoZeroCycle (edges g) → (i : ℕ) → i < length (g .syncs) →
-    Redundant g i ↔
-    ((f : Edge) × f ∈ edgesWithout g i × (f .source ≡ (syncAt g i) .source) ×
-    (((f .sink ≡ (syncAt g i) .sink) × (f .delay ≤ (syncAt g i) .delay)) ⊎
-    ((d : ℕ) × Least (edges g) (f .sink) ((syncAt g i) .sink) (some d) × (f .delay + d ≤ (syncAt g i) .delay))))
+    (g : Graph) → Ends (count g) (g .syncs) → NoZeroCycle (edges g) → (i : ℕ) → i < length (g .syncs) → Redundant g i ↔ OtherWay g i (syncAt g i)
 
 -- ── Bounds ──
 
