@@ -6,10 +6,10 @@ use mathlib.Core.List.{List}
 use Prim.Native.Nat.{ℕ, _≤_, _<_}
 use native.Mathlib.Nat.{le-refl, le-trans}
 use native.Mathlib.Omega.{arith}
-use Rattle.model.specs.Tasks.{Edge, _∈_}
+use Rattle.model.specs.Tasks.{Edge}
 use Rattle.model.specs.Graph.{Graph, count, edges, timeOf, WellFormedEdges}
-use Rattle.model.specs.Paths.{OnCycle, NoZeroCycle, Latency}
-use Rattle.model.specs.Runs.{Times, ends, Allows, Earliest, estimates, MissesBound}
+use Rattle.model.specs.Paths.{NoneOnCycle, NoZeroCycle, Latency}
+use Rattle.model.specs.Runs.{Times, ends, RunsAllowed, Earliest, estimates, MissesBound}
 use Rattle.model.specs.Compute.{earliest, latencyOf}
 use Rattle.model.specs.Proposals.{result, AcceptedGraph, AcceptedProposal}
 use Rattle.model.specs.Theorems.{MissesBoundIff, OffCycles, ResultNeverStalls, ResultOrders, ResultLost, ResultMisses, AcceptedResult, AcceptedIff}
@@ -59,7 +59,7 @@ result-misses g proposed h long o =
 
 -- what an accepted graph and a well-formed proposal give, once its edges lie on no cycle
 off-cycles-of : (g : Graph) (proposed : List Edge) → AcceptedGraph g → WellFormedEdges (count g) proposed →
-    ((e : Edge) → e ∈ proposed → OnCycle (edges (result g proposed)) e → ⊥) → OffCycles g proposed
+    NoneOnCycle (edges (result g proposed)) proposed → OffCycles g proposed
 off-cycles-of g proposed graph formed off =
     record { sync-ends = graph .formed .syncs-formed .ends; proposed-ends = formed .ends; no-zero-cycle = graph .no-zero-cycle; off-cycles = off }
 
@@ -95,8 +95,7 @@ accepted-iff g proposed graph formed off-cycles = (to, from)
     late-iff : MissesBound r ↔ (g .bound < latencyOf r)
     late-iff = result-misses g proposed off (λ v l. (graph .formed .times v l) .0) (graph .formed .output-below)
 
-    to : AcceptedProposal g proposed →
-        ((K : ℕ) (start dur : Times) → Allows (count g) (edges r) K start dur → Allows (count g) (edges g) K start dur) × (MissesBound r → ⊥)
+    to : AcceptedProposal g proposed → RunsAllowed (count g) (edges r) (edges g) × (MissesBound r → ⊥)
     to accepted = ((result-orders g proposed off) .0 (accepted .orders), in-time)
       where
         in-time : MissesBound r → ⊥
@@ -107,8 +106,7 @@ accepted-iff g proposed graph formed off-cycles = (to, from)
             let above : g .bound < latencyOf r = late-iff .0 m in
             omega arith
 
-    from : ((K : ℕ) (start dur : Times) → Allows (count g) (edges r) K start dur → Allows (count g) (edges g) K start dur) × (MissesBound r → ⊥) →
-        AcceptedProposal g proposed
+    from : RunsAllowed (count g) (edges r) (edges g) × (MissesBound r → ⊥) → AcceptedProposal g proposed
     from h =
         record {
           off-cycles = off-cycles;

@@ -63,7 +63,7 @@ begin-least {n} {es} {K} {other} {dur} run (suc f) v k h l =
         let b = binds-out v k e (m .1) in
         let d = b .1 in
         let i = ih (k - e .delay) (omega arith) (omega arith) in
-        let kept = run .keeps e (m .0) k d l in
+        let kept = run .keeps e (m .0) k (omega arith) l in
         le-trans (omega arith) (subst (λ (x : ℕ). due other dur k e ≤ other x k) (b .0) kept)
 
 module _ {n : ℕ} {es : List Edge} (bounds : Ends n es) (acyclic : NoZeroCycle es) where

@@ -2,22 +2,25 @@
 -- them speaks of nothing. The tests that decide a meaning are computed; their theorems give the meaning.
 use mathlib.Core.Path.{refl}
 use mathlib.Core.Bool.{not, _&&_}
-use mathlib.Core.List.{List}
+use mathlib.Core.Logic.{_↔_}
+use mathlib.Core.List.{List, [], _∷_, List·Memᴰ·head as here}
 use Prim.Native.Nat.{ℕ, _≤_, _<_}
+use native.Mathlib.Nat.{lt-irrefl}
 use lib.Dec.{T, T-not, eqb, leb, ltb, ltb→lt, leb→le, lit<, lit≤}
 use Rattle.model.specs.Lists.{tabulate, every}
 use Rattle.model.specs.Tasks.{Edge, _∈_, Ends, Distinct, processorOf}
 use Rattle.model.specs.Processors.{processorEdges}
 use Rattle.model.specs.Graph.{edges, timeOf, WellFormedEdges, WellFormed}
-use Rattle.model.specs.Paths.{NoZeroCycle, Serial, OrderHeld}
+use Rattle.model.specs.Paths.{AllHeld, NoneOnCycle, OrderHeld, NoZeroCycle, Serial}
+use Rattle.model.specs.Runs.{MissesBound}
 use Rattle.model.specs.Compute.{leastDelay, isRedundant, onCycle, zeroCycle, orderHolds, inputFree, joined, distinct, earliest, latencyOf}
 use Rattle.model.specs.Proposals.{AcceptedGraph, AcceptedProposal, result, dropping}
-use Rattle.model.specs.Theorems.{Resynchronizes}
-use Rattle.model.specs.Example.{desk, proposal, DeskDelays, DeskEdges, DeskRedundant, DeskLatency, DeskStarts, DeskResult, ResultLatency}
+use Rattle.model.specs.Theorems.{Decides, OffCycles, Resynchronizes}
+use Rattle.model.specs.Example.{edge, deskBound, desk, proposal, looped, DeskOnCycle, DeskEmptyLoses, DeskFirstOnlyLoses, DeskDelayedLoses, DeskLate, DeskDelays, DeskEdges, DeskRedundant, DeskLatency, DeskStarts, DeskResult, ResultLatency}
 use Rattle.model.proofs.Basics.{all-below, every-out, eq→eqb, and-left, and-right}
-use Rattle.model.proofs.Graphs.{graph-ends, graph-serial}
+use Rattle.model.proofs.Graphs.{sync-edge-in, graph-ends, graph-serial}
 use Rattle.model.proofs.Results.{result-ends, result-proposed}
-use Rattle.model.proofs.Theorems.{zero-cycle-is, on-cycle-is, order-holds-is, distinct-is, input-free-is, joined-is, redundant-is, latency-is, accepted-result, dropped-together}
+use Rattle.model.proofs.Theorems.{zero-cycle-is, on-cycle-is, order-holds-is, distinct-is, input-free-is, joined-is, redundant-is, latency-is, result-lost, result-misses, accepted-result, dropped-together}
 
 -- ── Computed ──
 
@@ -142,6 +145,56 @@ proposal-accepted =
 pub desk-resynchronized : Resynchronizes desk (result desk proposal)
 desk-resynchronized = accepted-result desk proposal desk-accepted proposal-formed proposal-accepted
 
+-- ── Each refusal of a proposal, met ──
+
+-- what a result of the desk is, whatever is proposed between its tasks and off its cycles
+desk-off-cycles : (l : ℕ) (proposed : List Edge) → Ends 4 proposed → NoneOnCycle (edges (result (deskBound l) proposed)) proposed → OffCycles (deskBound l) proposed
+unfolding edges
+desk-off-cycles l proposed bounds off =
+    record { sync-ends = desk-ends; proposed-ends = bounds; no-zero-cycle = desk-acyclic; off-cycles = off }
+
+pub desk-on-cycle : DeskOnCycle
+unfolding edges processorEdges result onCycle every
+desk-on-cycle e m =
+    (on-cycle-is 4 (edges (result desk looped)) (result-ends desk desk-ends looped (ends-of 4 looped tt)) e (result-proposed desk looped m)) .if-true
+    (every-out (onCycle 4 (edges (result desk looped))) {xs = looped} tt m)
+
+none-proposed : Ends 4 []
+none-proposed e m = elim m [ ]
+
+pub desk-empty-loses : DeskEmptyLoses
+unfolding edges processorEdges result orderHolds
+desk-empty-loses =
+    (lost, (result-lost desk [] (desk-off-cycles 12 [] none-proposed (λ e m c. elim m [ ]))) .0 (edge 0 2 0, sync-edge-in desk (here refl), lost))
+  where
+    lost : OrderHeld (edges (result desk [])) (edge 0 2 0) → ⊥
+    lost = (order-holds-is 4 (edges (result desk [])) (result-ends desk desk-ends [] none-proposed) (edge 0 2 0)) .if-false tt
+
+-- the test of an order of the desk in the result of one proposed edge
+one-proposed : (e f : Edge) → Ends 4 (e ∷ []) → Decides (orderHolds 4 (edges (result desk (e ∷ []))) f) (OrderHeld (edges (result desk (e ∷ []))) f)
+one-proposed e f bounds = order-holds-is 4 (edges (result desk (e ∷ []))) (result-ends desk desk-ends (e ∷ []) bounds) f
+
+pub desk-first-only-loses : DeskFirstOnlyLoses
+unfolding edges processorEdges result orderHolds every
+desk-first-only-loses =
+    let bounds = ends-of 4 (edge 0 2 0 ∷ []) tt in
+    ((one-proposed (edge 0 2 0) (edge 0 2 0) bounds) .if-true tt, (one-proposed (edge 0 2 0) (edge 1 3 0) bounds) .if-false tt)
+
+pub desk-delayed-loses : DeskDelayedLoses
+unfolding edges processorEdges result orderHolds every
+desk-delayed-loses = (one-proposed (edge 1 2 1) (edge 0 2 0) (ends-of 4 (edge 1 2 1 ∷ []) tt)) .if-false tt
+
+pub desk-late : DeskLate
+unfolding edges processorEdges timeOf result latencyOf
+desk-late = (λ m. lt-irrefl 10 ((late-iff 10) .0 m), (late-iff 9) .1 (lit< tt))
+  where
+    late-iff : (l : ℕ) → MissesBound (result (deskBound l) proposal) ↔ (l < latencyOf (result (deskBound l) proposal))
+    late-iff l =
+        result-misses (deskBound l) proposal (desk-off-cycles l proposal proposal-ends (proposal-accepted .off-cycles)) (λ v h. (desk-formed .times v h) .0)
+        (lit< tt)
+
+-- ── Redundant edges, dropped ──
+
 -- edge 3 of the desk is redundant, and can be dropped
-pub desk-thinned : (e : Edge) → e ∈ edges desk → OrderHeld (edges (dropping desk (isRedundant desk))) e
+pub desk-thinned : AllHeld (edges (dropping desk (isRedundant desk))) (edges desk)
 desk-thinned = dropped-together desk desk-ends desk-acyclic desk-distinct (isRedundant desk) (λ i l t. (redundant-is desk desk-ends i) .if-true t)

@@ -9,7 +9,7 @@ use Rattle.model.specs.Lists.{every, always, keepPlaces}
 use Rattle.model.specs.Tasks.{Edge, _∈_, Ends}
 use Rattle.model.specs.Processors.{processorEdges}
 use Rattle.model.specs.Graph.{edges}
-use Rattle.model.specs.Paths.{NoZeroCycle, OrderHeld}
+use Rattle.model.specs.Paths.{AllHeld, NoZeroCycle}
 use Rattle.model.specs.Runs.{Times, Keeps, Allows}
 use Rattle.model.specs.Compute.{isRedundant, orderHolds, zeroCycle}
 use Rattle.model.specs.Proposals.{dropping}
@@ -54,7 +54,7 @@ serial-is-needed claim = absurd (broken ((claim 2 later together bounds acyclic 
     acyclic : NoZeroCycle together
     acyclic = (zero-cycle-is 2 together bounds) .if-false tt
 
-    held : (e : Edge) → e ∈ later → OrderHeld together e
+    held : AllHeld together later
     held e m = (order-holds-is 2 together bounds e) .if-true (every-out (orderHolds 2 together) {xs = later} tt m)
 
     kept : (e : Edge) → e ∈ together → Keeps 2 overtaking (λ v k. 1) e

@@ -11,8 +11,8 @@ use native.Mathlib.Omega.{arith}
 use lib.Dec.{T, not-T, eqb, eqb→eq, eqb-refl}
 use Rattle.model.specs.Lists.{keep, biggest, counted}
 use Rattle.model.specs.Tasks.{Edge, _∈_, Ends}
-use Rattle.model.specs.Paths.{Path, OrderHeld, NoZeroCycle, Serial}
-use Rattle.model.specs.Runs.{Times, ends, Keeps, Allows, Breaks}
+use Rattle.model.specs.Paths.{Path, OrderHeld, AllHeld, SomeLost, NoZeroCycle, Serial}
+use Rattle.model.specs.Runs.{Times, ends, Keeps, Allows, RunsAllowed, SomeRunBreaks}
 use Rattle.model.specs.Compute.{binds, due, begin, earliest}
 use Rattle.model.proofs.Basics.{is-false, is-true, keep-out, and-left, and-right, and-both, biggest-above, biggest-below}
 use Rattle.model.proofs.Walks.{path-edge, path-append, path-delay, path-ends, path-start-below}
@@ -33,8 +33,7 @@ held-exactly bounds serial {e} h =
     let l = r .2 in
     path-delay (omega arith) (padded serial (path-start-below bounds (r .1)) (r .1) (e .delay - r .0))
 
-pub orders-kept : {n : ℕ} {es rs : List Edge} → Ends n rs → Serial n rs → ((e : Edge) → e ∈ es → OrderHeld rs e) →
-    (K : ℕ) (start dur : Times) → Allows n rs K start dur → Allows n es K start dur
+pub orders-kept : {n : ℕ} {es rs : List Edge} → Ends n rs → Serial n rs → AllHeld rs es → RunsAllowed n rs es
 orders-kept bounds serial held K start dur run =
     record {
       positive = run .positive;
@@ -119,44 +118,40 @@ orders-lost {n} {rs} bounds acyclic e lost = (earliest n rs long, long, run, bro
 -- ── Both directions ──
 
 -- every order is held, or one is lost
-pub held-or-lost : {n : ℕ} {rs : List Edge} → Ends n rs → (es : List Edge) → ((e : Edge) → e ∈ es → OrderHeld rs e) ⊎ ((e : Edge) × e ∈ es × (OrderHeld rs e → ⊥))
+held-or-lost : {n : ℕ} {rs : List Edge} → Ends n rs → (es : List Edge) → AllHeld rs es ⊎ SomeLost rs es
 held-or-lost bounds [] = inl (λ e m. elim m [ ])
 held-or-lost {n} {rs} bounds (e ∷ es) = go (decided (order-holds bounds e)) (held-or-lost bounds es)
   where
-    go : OrderHeld rs e ⊎ (OrderHeld rs e → ⊥) → ((f : Edge) → f ∈ es → OrderHeld rs f) ⊎ ((f : Edge) × f ∈ es × (OrderHeld rs f → ⊥)) →
-        ((f : Edge) → f ∈ (e ∷ es) → OrderHeld rs f) ⊎ ((f : Edge) × f ∈ (e ∷ es) × (OrderHeld rs f → ⊥))
+    go : OrderHeld rs e ⊎ (OrderHeld rs e → ⊥) → AllHeld rs es ⊎ SomeLost rs es → AllHeld rs (e ∷ es) ⊎ SomeLost rs (e ∷ es)
     go (inr lost) r = inr (e, here refl, lost)
     go (inl h) (inr r) = inr (r .0, there (r .1), r .2)
     go (inl h) (inl r) = inl all
       where
-        all : (f : Edge) → f ∈ (e ∷ es) → OrderHeld rs f
+        all : AllHeld rs (e ∷ es)
         all f (here q) = subst (λ (x : Edge). OrderHeld rs x) (sym q) h
         all f (there m) = r f m
 
-pub orders-iff : {n : ℕ} {es rs : List Edge} → Ends n rs → Serial n rs → NoZeroCycle rs →
-    ((e : Edge) → e ∈ es → OrderHeld rs e) ↔ ((K : ℕ) (start dur : Times) → Allows n rs K start dur → Allows n es K start dur)
-orders-iff {n} {es} {rs} bounds serial acyclic = (orders-kept bounds serial, back)
-  where
-    back : ((K : ℕ) (start dur : Times) → Allows n rs K start dur → Allows n es K start dur) → (e : Edge) → e ∈ es → OrderHeld rs e
-    back allowed e m = go (decided (order-holds bounds e))
-      where
-        go : OrderHeld rs e ⊎ (OrderHeld rs e → ⊥) → OrderHeld rs e
-        go (inl h) = h
-        go (inr lost) = let r = orders-lost bounds acyclic e lost in absurd (r .3 ((allowed (suc (e .delay)) (r .0) (r .1) (r .2)) .keeps e m))
+module _ {n : ℕ} {es rs : List Edge} (bounds : Ends n rs) (serial : Serial n rs) (acyclic : NoZeroCycle rs) where
+  -- some order is lost exactly if some run that rs allows breaks es
+  pub lost-iff : SomeLost rs es ↔ SomeRunBreaks n rs es
+  lost-iff = (breaking, lost)
+    where
+      breaking : SomeLost rs es → SomeRunBreaks n rs es
+      breaking x =
+          let r = orders-lost bounds acyclic (x .0) (x .2) in
+          (suc (x .0 .delay), r .0, r .1, r .2, λ run. r .3 (run .keeps (x .0) (x .1)))
 
--- some order is lost exactly if some run that rs allows breaks es
-pub lost-iff : {n : ℕ} {es rs : List Edge} → Ends n rs → Serial n rs → NoZeroCycle rs →
-    ((e : Edge) × e ∈ es × (OrderHeld rs e → ⊥)) ↔ ((K : ℕ) × (start : Times) × (dur : Times) × Allows n rs K start dur × Breaks n es K start dur)
-lost-iff {n} {es} {rs} bounds serial acyclic = (breaking, back)
-  where
-    breaking : (e : Edge) × e ∈ es × (OrderHeld rs e → ⊥) → (K : ℕ) × (start : Times) × (dur : Times) × Allows n rs K start dur × Breaks n es K start dur
-    breaking x =
-        let r = orders-lost bounds acyclic (x .0) (x .2) in
-        (suc (x .0 .delay), r .0, r .1, r .2, λ run. r .3 (run .keeps (x .0) (x .1)))
+      lost : SomeRunBreaks n rs es → SomeLost rs es
+      lost r = go (held-or-lost bounds es)
+        where
+          go : AllHeld rs es ⊎ SomeLost rs es → SomeLost rs es
+          go (inl held) = absurd (r .4 (orders-kept bounds serial held (r .0) (r .1) (r .2) (r .3)))
+          go (inr x) = x
 
-    back : (K : ℕ) × (start : Times) × (dur : Times) × Allows n rs K start dur × Breaks n es K start dur → (e : Edge) × e ∈ es × (OrderHeld rs e → ⊥)
-    back r = go (held-or-lost bounds es)
-      where
-        go : ((e : Edge) → e ∈ es → OrderHeld rs e) ⊎ ((e : Edge) × e ∈ es × (OrderHeld rs e → ⊥)) → (e : Edge) × e ∈ es × (OrderHeld rs e → ⊥)
-        go (inl held) = absurd (r .4 (orders-kept bounds serial held (r .0) (r .1) (r .2) (r .3)))
-        go (inr x) = x
+  -- all orders are held exactly if es allows every run that rs allows
+  pub orders-iff : AllHeld rs es ↔ RunsAllowed n rs es
+  orders-iff = (orders-kept bounds serial, λ allowed. go allowed (held-or-lost bounds es))
+    where
+      go : RunsAllowed n rs es → AllHeld rs es ⊎ SomeLost rs es → AllHeld rs es
+      go allowed (inl held) = held
+      go allowed (inr x) = let r = lost-iff .0 x in absurd (r .4 (allowed (r .0) (r .1) (r .2) (r .3)))

@@ -7,7 +7,7 @@ use Prim.Native.Nat.{_<_}
 use Rattle.model.specs.Tasks.{ProcessorEdge, Edge, _∈_, Ends}
 use Rattle.model.specs.Processors.{processorEdges}
 use Rattle.model.specs.Graph.{Graph, count, edges}
-use Rattle.model.specs.Paths.{OnCycle, Feedback, NoZeroCycle, SameCycles, Serial}
+use Rattle.model.specs.Paths.{OnCycle, NoneOnCycle, Feedback, NoZeroCycle, SameCycles, Serial}
 use Rattle.model.specs.Proposals.{feedbackEdges, result}
 use Rattle.model.specs.Theorems.{ResultEdges, ResultDrops, WithinProcessor, ResultCycles}
 use Rattle.model.proofs.Processors.{processor-edges, processor-around}
@@ -17,26 +17,29 @@ use Rattle.model.proofs.Tests.{decides-true}
 use Rattle.model.proofs.Cycles.{same-cycles, same-acyclic}
 use Rattle.model.proofs.Graphs.{processor-feedback, edge-cases, processor-edge-in, sync-edge-in, graph-ends, graph-serial, feedback-decides}
 
+feedback-in : (g : Graph) → Ends (count g) (g .syncs) → {e : Edge} → e ∈ g .syncs → Feedback g e → e ∈ feedbackEdges g
+unfolding feedbackEdges
+feedback-in g bounds {e} m f = keep-in _ m (decides-true (feedback-decides g bounds e (sync-edge-in g m)) f)
+
 feedback-out : (g : Graph) → Ends (count g) (g .syncs) → {e : Edge} → e ∈ feedbackEdges g → e ∈ g .syncs × Feedback g e
 unfolding feedbackEdges
 feedback-out g bounds {e} m =
     let r = keep-out _ (g .syncs) m in (r .0, (feedback-decides g bounds e (sync-edge-in g (r .0))) .if-true (r .1))
 
-feedback-in : (g : Graph) → Ends (count g) (g .syncs) → {e : Edge} → e ∈ g .syncs → Feedback g e → e ∈ feedbackEdges g
-unfolding feedbackEdges
-feedback-in g bounds {e} m f = keep-in _ m (decides-true (feedback-decides g bounds e (sync-edge-in g m)) f)
-
 -- where an edge of the result comes from
+abbrev pub Origin : Graph → List Edge → Edge → Type 0
+Origin g proposed e = e ∈ processorEdges (g .tasks) ⊎ ((e ∈ g .syncs × Feedback g e) ⊎ e ∈ proposed)
+
 pub result-cases : (g : Graph) → Ends (count g) (g .syncs) → (proposed : List Edge) {e : Edge} → e ∈ edges (result g proposed) →
-    e ∈ processorEdges (g .tasks) ⊎ ((e ∈ g .syncs × Feedback g e) ⊎ e ∈ proposed)
+    Origin g proposed e
 unfolding result
 result-cases g bounds proposed {e} m = go (edge-cases (result g proposed) m)
   where
-    kept : e ∈ feedbackEdges g ⊎ e ∈ proposed → e ∈ processorEdges (g .tasks) ⊎ ((e ∈ g .syncs × Feedback g e) ⊎ e ∈ proposed)
+    kept : e ∈ feedbackEdges g ⊎ e ∈ proposed → Origin g proposed e
     kept (inl k) = inr (inl (feedback-out g bounds k))
     kept (inr k) = inr (inr k)
 
-    go : e ∈ processorEdges (g .tasks) ⊎ e ∈ feedbackEdges g ++ proposed → e ∈ processorEdges (g .tasks) ⊎ ((e ∈ g .syncs × Feedback g e) ⊎ e ∈ proposed)
+    go : e ∈ processorEdges (g .tasks) ⊎ e ∈ feedbackEdges g ++ proposed → Origin g proposed e
     go (inl k) = inl k
     go (inr k) = kept (List·Memᴰ·append-cases (feedbackEdges g) k)
 
@@ -58,7 +61,7 @@ module _ (g : Graph) (bounds : Ends (count g) (g .syncs)) (proposed : List Edge)
   unfolding result
   result-ends e m = go (result-cases g bounds proposed m)
     where
-      go : e ∈ processorEdges (g .tasks) ⊎ ((e ∈ g .syncs × Feedback g e) ⊎ e ∈ proposed) → (e .source < count g) × (e .sink < count g)
+      go : Origin g proposed e → (e .source < count g) × (e .sink < count g)
       go (inl k) = graph-ends g bounds e (processor-edge-in g k)
       go (inr (inl k)) = bounds e (k .0)
       go (inr (inr k)) = ends e k
@@ -67,7 +70,7 @@ module _ (g : Graph) (bounds : Ends (count g) (g .syncs)) (proposed : List Edge)
   unfolding result
   result-serial = graph-serial (result g proposed)
 
-  module _ (off-cycles : (e : Edge) → e ∈ proposed → OnCycle (edges (result g proposed)) e → ⊥) where
+  module _ (off-cycles : NoneOnCycle (edges (result g proposed)) proposed) where
     pub result-same-cycles : SameCycles (edges g) (edges (result g proposed))
     result-same-cycles = same-cycles kept original
       where
@@ -81,7 +84,7 @@ module _ (g : Graph) (bounds : Ends (count g) (g .syncs)) (proposed : List Edge)
         original : (e : Edge) → OnCycle (edges (result g proposed)) e → e ∈ edges g
         original e c = go (result-cases g bounds proposed ((cycle-back c) .0))
           where
-            go : e ∈ processorEdges (g .tasks) ⊎ ((e ∈ g .syncs × Feedback g e) ⊎ e ∈ proposed) → e ∈ edges g
+            go : Origin g proposed e → e ∈ edges g
             go (inl k) = processor-edge-in g k
             go (inr (inl k)) = sync-edge-in g (k .0)
             go (inr (inr k)) = absurd (off-cycles e k c)
@@ -97,7 +100,7 @@ result-edges g bounds proposed e = (from, into)
     from : e ∈ edges (result g proposed) → ProcessorEdge (g .tasks) e ⊎ ((e ∈ g .syncs × Feedback g e) ⊎ e ∈ proposed)
     from m = go (result-cases g bounds proposed m)
       where
-        go : e ∈ processorEdges (g .tasks) ⊎ ((e ∈ g .syncs × Feedback g e) ⊎ e ∈ proposed) → ProcessorEdge (g .tasks) e ⊎ ((e ∈ g .syncs × Feedback g e) ⊎ e ∈ proposed)
+        go : Origin g proposed e → ProcessorEdge (g .tasks) e ⊎ ((e ∈ g .syncs × Feedback g e) ⊎ e ∈ proposed)
         go (inl k) = inl ((processor-edges (g .tasks) e) .0 k)
         go (inr k) = inr k
 
@@ -109,7 +112,7 @@ result-edges g bounds proposed e = (from, into)
 pub result-drops : ResultDrops
 result-drops g bounds proposed e forward m = go (result-cases g bounds proposed m)
   where
-    go : e ∈ processorEdges (g .tasks) ⊎ ((e ∈ g .syncs × Feedback g e) ⊎ e ∈ proposed) → e ∈ proposed
+    go : Origin g proposed e → e ∈ proposed
     go (inl k) = absurd (forward (processor-feedback g k))
     go (inr (inl k)) = absurd (forward (k .1))
     go (inr (inr k)) = k

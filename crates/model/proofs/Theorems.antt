@@ -78,7 +78,7 @@ pub order-lost : OrderLost
 order-lost n rs bounds acyclic = Orders.orders-lost bounds acyclic
 
 pub lost-iff : LostIff
-lost-iff n es rs serial bounds acyclic = Orders.lost-iff bounds serial acyclic
+lost-iff n es rs bounds serial acyclic = Orders.lost-iff bounds serial acyclic
 
 -- ── 5. Latency ──
 
@@ -89,7 +89,7 @@ pub latency-unique : LatencyUnique
 latency-unique es time output l l′ = Latency.latency-unique
 
 pub first-output : FirstOutput
-first-output n es bounds K start dur time output l = Latency.first-output bounds time output l
+first-output n es bounds K start dur time output l h o run shorter lat = Latency.first-output bounds time output l h o run shorter lat
 
 pub first-output-exact : FirstOutputExact
 first-output-exact n es bounds K start time output = Latency.first-output-exact bounds time output
@@ -132,7 +132,7 @@ accepted-iff = Accepted.accepted-iff
 -- ── 7. Redundant edges, dropped together ──
 
 pub dropped-together : DroppedTogether
-dropped-together = Together.dropped-together
+dropped-together g bounds acyclic distinct marked redundant = Together.dropped-together g bounds acyclic distinct marked redundant
 
 pub redundant-by-table : RedundantByTable
 redundant-by-table = Redundant.redundant-by-table

@@ -14,7 +14,7 @@ use Rattle.model.specs.Lists.{without, keepPlaces}
 use Rattle.model.specs.Tasks.{Edge, _∈_, Ends, Distinct, noEdge}
 use Rattle.model.specs.Processors.{processorEdges}
 use Rattle.model.specs.Graph.{Graph, count, edges}
-use Rattle.model.specs.Paths.{total, Walk, stop, step, Path, OrderHeld, Redundant, edgesWithout, syncAt, NoZeroCycle}
+use Rattle.model.specs.Paths.{AllHeld, total, Walk, stop, step, Path, Redundant, edgesWithout, syncAt, NoZeroCycle}
 use Rattle.model.specs.Proposals.{dropping}
 use Rattle.model.proofs.Basics.{cases, order, member-place, place-member, places-in, places-out}
 use Rattle.model.proofs.Walks.{edge-equal, path-edge, path-append, path-ends, walk-split, walk-re-base}
@@ -182,7 +182,7 @@ module _ (g : Graph) (bounds : Ends (count g) (g .syncs)) (acyclic : NoZeroCycle
               detour f i e light ih fresh (h .1 .walk) (le-trans (le-of-eq (h .1 .sum)) (h .2))
 
   -- Whatever redundant edges are marked, dropping them all at once holds every order.
-  pub dropped-together : (e : Edge) → e ∈ edges g → OrderHeld (edges (dropping g marked)) e
+  pub dropped-together : AllHeld (edges (dropping g marked)) (edges g)
   unfolding Lighter dropping
   dropped-together e m =
       let n = count g in

@@ -7,8 +7,8 @@ use Prim.Native.Nat.{ℕ, suc}
 use Rattle.model.specs.Lists.{tabulate, always}
 use Rattle.model.specs.Tasks.{Task, Edge, _∈_, Ends}
 use Rattle.model.specs.Graph.{Graph, edges, count, timeOf}
-use Rattle.model.specs.Paths.{NoZeroCycle, OrderHeld, Redundant}
-use Rattle.model.specs.Runs.{Times, Allows, estimates}
+use Rattle.model.specs.Paths.{NoZeroCycle, OnCycle, OrderHeld, AllHeld, Redundant}
+use Rattle.model.specs.Runs.{RunsAllowed, SomeRunBreaks, MissesBound, estimates}
 use Rattle.model.specs.Compute.{leastDelay, isRedundant, earliest, latencyOf}
 use Rattle.model.specs.Proposals.{result, dropping}
 
@@ -19,15 +19,18 @@ abbrev pub edge : ℕ → ℕ → ℕ → Edge
 edge a b d = record { source = a; sink = b; delay = d }
 
 -- "Tasks 0, 1 on processor 0 (times 2, 3); 2, 3 on processor 1 (1, 4). Edges 0→2, 1→3, 0→3, delay 0. Input 0, output 3, bound 12."
-abbrev pub desk : Graph
-desk =
+abbrev pub deskBound : ℕ → Graph
+deskBound l =
     record {
       tasks = task 0 2 ∷ task 0 3 ∷ task 1 1 ∷ task 1 4 ∷ [];
       syncs = edge 0 2 0 ∷ edge 1 3 0 ∷ edge 0 3 0 ∷ [];
       input = 0;
       output = 3;
-      bound = 12;
+      bound = l;
     }
+
+abbrev pub desk : Graph
+desk = deskBound 12
 
 -- "Proposal bytes for 1→2, delay 0"
 abbrev pub proposal : List Edge
@@ -71,6 +74,32 @@ DeskResult = (result desk proposal) .syncs ≡ proposal
 abbrev pub ResultLatency : Type 0
 ResultLatency = latencyOf (result desk proposal) ≡ 10
 
+-- ── Each refusal of a proposal, met ──
+
+-- "0→2, 1→3, and 3→0 with delay 1: 13, place 1, 2 or 3"
+abbrev pub looped : List Edge
+looped = edge 0 2 0 ∷ edge 1 3 0 ∷ edge 3 0 1 ∷ []
+
+abbrev pub DeskOnCycle : Type 0
+DeskOnCycle = (e : Edge) → e ∈ looped → OnCycle (edges (result desk looped)) e
+
+-- "empty proposal: 14, place 1": the first order is lost, and so some run of the waits that are left breaks the desk
+abbrev pub DeskEmptyLoses : Type 0
+DeskEmptyLoses = (OrderHeld (edges (result desk [])) (edge 0 2 0) → ⊥) × SomeRunBreaks 4 (edges (result desk [])) (edges desk)
+
+-- "only 0→2: 14, place 2": the first order is held, the second lost
+abbrev pub DeskFirstOnlyLoses : Type 0
+DeskFirstOnlyLoses =
+    OrderHeld (edges (result desk (edge 0 2 0 ∷ []))) (edge 0 2 0) × (OrderHeld (edges (result desk (edge 0 2 0 ∷ []))) (edge 1 3 0) → ⊥)
+
+-- "1→2 with delay 1: 14, place 1"
+abbrev pub DeskDelayedLoses : Type 0
+DeskDelayedLoses = OrderHeld (edges (result desk (edge 1 2 1 ∷ []))) (edge 0 2 0) → ⊥
+
+-- "bound 10: accepted, margin 0", "bound 9: refusal 15, latency 10"
+abbrev pub DeskLate : Type 0
+DeskLate = (MissesBound (result (deskBound 10) proposal) → ⊥) × MissesBound (result (deskBound 9) proposal)
+
 -- ── What the theorems cannot do without ──
 
 -- The customer's accident: two equal waits. Each is redundant on the strength of the other, and with both dropped the order is lost.
@@ -83,5 +112,4 @@ EqualEdgesNeedRefusal = Redundant twins 0 × Redundant twins 1 × (OrderHeld (ed
 -- Without the tasks' own cycles a least delay at most an edge's own would not keep its order.
 abbrev pub SerialIsNeeded : Type 0
 SerialIsNeeded =
-    ((n : ℕ) (es rs : List Edge) → Ends n rs → NoZeroCycle rs → ((e : Edge) → e ∈ es → OrderHeld rs e) →
-    (K : ℕ) (start dur : Times) → Allows n rs K start dur → Allows n es K start dur) → ⊥
+    ((n : ℕ) (es rs : List Edge) → Ends n rs → NoZeroCycle rs → AllHeld rs es → RunsAllowed n rs es) → ⊥

@@ -26,7 +26,8 @@ timeOf g v = (getD (g .tasks) v noTask) .time
 unfoldable pub edges : Graph → List Edge
 edges g = processorEdges (g .tasks) ++ g .syncs
 
--- "0 to 256 synchronization edges between tasks of different processors, each of delay 0 to 255"; equal ones are refused (8).
+-- The edges of a graph's file, or of a proposal that "passes these up to 8": "0 to 256 synchronization edges", ends that are tasks (6), "each of
+-- delay 0 to 255", no two equal (8). That a graph's lead "between tasks of different processors" (7) is said in WellFormed.
 pub record WellFormedEdges (n : ℕ) (es : List Edge) : Type 0 where
   pub few : length es ≤ 256
   pub ends : Ends n es

@@ -1,5 +1,5 @@
--- What a reader must believe: Tasks, Graph, Paths, Runs, Proposals. What is proved of it: Theorems. The example desk: Example.
--- What only computes, and is proved to be what the others mean: Lists, Processors, Compute.
+-- What a reader must believe: Tasks, Graph, Paths, Runs, Proposals, and the first four functions of Lists. What is proved of it: Theorems.
+-- The example desk: Example. What only computes, and is proved to be what the others mean: Processors, Compute.
 pub mod Lists
 pub mod Tasks
 pub mod Processors

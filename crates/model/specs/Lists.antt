@@ -1,4 +1,5 @@
--- Helper functions on lists and on numbers below a limit, for the definitions that compute.
+-- Functions on lists and on numbers below a limit. The first four, `put` to `keepPlaces`, are part of definitions to believe (what a result
+-- keeps, an edge removed by its place, edges dropped by their places); the others serve what computes, and sums in bounds.
 use mathlib.Core.Bool.{Bool, true, false, _&&_, _||_}
 use mathlib.Core.List.{List, [], _∷_, _++_}
 use mathlib.Core.Option.{Option, none, some}
@@ -27,6 +28,8 @@ module _ {A : Type 0} where
   unfolding put
   keepPlaces t i [] = []
   keepPlaces t i (x ∷ xs) = put (t i) x (keepPlaces t (suc i) xs)
+
+  -- ── Only for definitions that compute ──
 
   -- f 0, f 1, .., the first n of them
   unfoldable pub tabulate : ℕ → (ℕ → A) → List A

@@ -37,6 +37,14 @@ pub data Least (es : List Edge) (a b : ℕ) : Option ℕ → Type 0 where
 abbrev pub OrderHeld : List Edge → Edge → Type 0
 OrderHeld es e = (d : ℕ) × Least es (e .source) (e .sink) (some d) × (d ≤ e .delay)
 
+-- every edge of es has its order held in rs
+abbrev pub AllHeld : List Edge → List Edge → Type 0
+AllHeld rs es = (e : Edge) → e ∈ es → OrderHeld rs e
+
+-- refusal 14: "an original order lost"
+abbrev pub SomeLost : List Edge → List Edge → Type 0
+SomeLost rs es = (e : Edge) × e ∈ es × (OrderHeld rs e → ⊥)
+
 -- the edges of g with its synchronization edge number i (from 0) removed, the others kept
 unfoldable pub edgesWithout : Graph → ℕ → List Edge
 unfolding without
@@ -57,6 +65,10 @@ pub data Cycle (es : List Edge) : List Edge → Type 0 where
 -- e "lies on a cycle"
 abbrev pub OnCycle : List Edge → Edge → Type 0
 OnCycle es e = (p : List Edge) × Cycle es p × e ∈ p
+
+-- no edge of the list lies on a cycle of rs (otherwise refusal 13)
+abbrev pub NoneOnCycle : List Edge → List Edge → Type 0
+NoneOnCycle rs es = (e : Edge) → e ∈ es → OnCycle rs e → ⊥
 
 -- "It is feedback if it lies on a cycle, otherwise feedforward."
 abbrev pub Feedback : Graph → Edge → Type 0

@@ -3,12 +3,12 @@ use mathlib.Core.Bool.{Bool, not}
 use mathlib.Core.List.{List, _++_}
 use Prim.Native.Nat.{ℕ, _≤_}
 use Rattle.model.specs.Lists.{keep, keepPlaces}
-use Rattle.model.specs.Tasks.{Edge, _∈_}
+use Rattle.model.specs.Tasks.{Edge}
 use Rattle.model.specs.Graph.{Graph, edges, timeOf, WellFormed}
-use Rattle.model.specs.Paths.{NoZeroCycle, InputFree, Joined, Latency, OnCycle, OrderHeld}
+use Rattle.model.specs.Paths.{NoZeroCycle, InputFree, Joined, Latency, NoneOnCycle, AllHeld}
 use Rattle.model.specs.Compute.{isFeedback}
 
--- "Every call that takes a graph runs its checks up to 12; a graph that passes them is accepted."
+-- "Every call that takes a graph runs its checks up to 12; a graph that passes them is accepted." The fields are 1 to 8, 9, 10, 11 and 12.
 pub record AcceptedGraph (g : Graph) : Type 0 where
   pub formed : WellFormed g
   pub no-zero-cycle : NoZeroCycle (edges g)
@@ -37,6 +37,6 @@ result g proposed =
 -- "It is accepted if no proposed edge lies on a cycle of the result, every original edge's ends have in the result a least delay at
 -- most that edge's own, and the result's latency is at most the bound."
 pub record AcceptedProposal (g : Graph) (proposed : List Edge) : Type 0 where
-  pub off-cycles : (e : Edge) → e ∈ proposed → OnCycle (edges (result g proposed)) e → ⊥
-  pub orders : (e : Edge) → e ∈ edges g → OrderHeld (edges (result g proposed)) e
+  pub off-cycles : NoneOnCycle (edges (result g proposed)) proposed
+  pub orders : AllHeld (edges (result g proposed)) (edges g)
   pub in-time : (l : ℕ) × Latency (edges (result g proposed)) (timeOf g) (g .output) l × (l ≤ g .bound)

@@ -30,6 +30,15 @@ pub record Allows (n : ℕ) (es : List Edge) (K : ℕ) (start dur : Times) : Typ
 abbrev pub Breaks : ℕ → List Edge → ℕ → Times → Times → Type 0
 Breaks n es K start dur = Allows n es K start dur → ⊥
 
+-- Demand 3, of a result rs and its original es: "for every number of turns, whatever time of at least one each task takes in each turn, the
+-- original allows every run that the result allows"
+abbrev pub RunsAllowed : ℕ → List Edge → List Edge → Type 0
+RunsAllowed n rs es = (K : ℕ) (start dur : Times) → Allows n rs K start dur → Allows n es K start dur
+
+-- demand 3: "some run the result allows breaks the original"
+abbrev pub SomeRunBreaks : ℕ → List Edge → List Edge → Type 0
+SomeRunBreaks n rs es = (K : ℕ) × (start : Times) × (dur : Times) × Allows n rs K start dur × Breaks n es K start dur
+
 -- "A graph never stalls if it has a run for every number of turns and all durations of at least 1."
 abbrev pub NeverStalls : ℕ → List Edge → Type 0
 NeverStalls n es = (K : ℕ) (dur : Times) → AtLeastOne n K dur → (start : Times) × Allows n es K start dur

@@ -11,8 +11,8 @@ use Rattle.model.specs.Lists.{sumBelow}
 use Rattle.model.specs.Tasks.{Edge, _∈_, Ends, Distinct, Task, processorOf, ProcessorEdge}
 use Rattle.model.specs.Processors.{processorEdges}
 use Rattle.model.specs.Graph.{Graph, count, edges, timeOf, WellFormedEdges}
-use Rattle.model.specs.Paths.{Path, Least, OrderHeld, edgesWithout, syncAt, Redundant, OnCycle, Feedback, Feedforward, ZeroCycle, NoZeroCycle, SameCycles, ZeroWalk, timesAlong, Latency, InputFree, Joined, Serial}
-use Rattle.model.specs.Runs.{Times, ends, AtLeastOne, Keeps, Allows, Breaks, NeverStalls, Earliest, estimates, MissesBound}
+use Rattle.model.specs.Paths.{Path, Least, OrderHeld, AllHeld, SomeLost, NoneOnCycle, edgesWithout, syncAt, Redundant, OnCycle, Feedback, Feedforward, ZeroCycle, NoZeroCycle, SameCycles, ZeroWalk, timesAlong, Latency, InputFree, Joined, Serial}
+use Rattle.model.specs.Runs.{Times, ends, AtLeastOne, Keeps, Allows, RunsAllowed, SomeRunBreaks, NeverStalls, Earliest, estimates, MissesBound}
 use Rattle.model.specs.Compute.{leastDelay, orderHolds, isRedundant, onCycle, zeroCycle, inputFree, joined, distinct, earliest, latency, isFeedback, latencyOf}
 use Rattle.model.specs.Proposals.{result, dropping, AcceptedGraph, AcceptedProposal}
 
@@ -104,8 +104,7 @@ NeverStallsIff = (n : ℕ) (es : List Edge) → Ends n es → NeverStalls n es �
 -- Each edge of es has in rs a least delay at most its own exactly if every run that rs allows, of every number of turns, is allowed by es.
 abbrev pub OrdersIff : Type 0
 OrdersIff =
-    (n : ℕ) (es rs : List Edge) → Ends n rs → Serial n rs → NoZeroCycle rs →
-    ((e : Edge) → e ∈ es → OrderHeld rs e) ↔ ((K : ℕ) (start dur : Times) → Allows n rs K start dur → Allows n es K start dur)
+    (n : ℕ) (es rs : List Edge) → Ends n rs → Serial n rs → NoZeroCycle rs → AllHeld rs es ↔ RunsAllowed n rs es
 
 -- Where an order is lost, a run of that edge's delay + 1 turns shows it.
 abbrev pub OrderLost : Type 0
@@ -116,8 +115,7 @@ OrderLost =
 -- Some order is lost exactly if some run that rs allows breaks es.
 abbrev pub LostIff : Type 0
 LostIff =
-    (n : ℕ) (es rs : List Edge) → Serial n rs → Ends n rs → NoZeroCycle rs →
-    ((e : Edge) × e ∈ es × (OrderHeld rs e → ⊥)) ↔ ((K : ℕ) × (start : Times) × (dur : Times) × Allows n rs K start dur × Breaks n es K start dur)
+    (n : ℕ) (es rs : List Edge) → Ends n rs → Serial n rs → NoZeroCycle rs → SomeLost rs es ↔ SomeRunBreaks n rs es
 
 -- ── 5. Latency ──
 
@@ -170,7 +168,7 @@ pub record OffCycles (g : Graph) (proposed : List Edge) : Type 0 where
   pub sync-ends : Ends (count g) (g .syncs)
   pub proposed-ends : Ends (count g) proposed
   pub no-zero-cycle : NoZeroCycle (edges g)
-  pub off-cycles : (e : Edge) → e ∈ proposed → OnCycle (edges (result g proposed)) e → ⊥
+  pub off-cycles : NoneOnCycle (edges (result g proposed)) proposed
 
 abbrev pub ResultCycles : Type 0
 ResultCycles = (g : Graph) (proposed : List Edge) → OffCycles g proposed → SameCycles (edges g) (edges (result g proposed))
@@ -181,14 +179,12 @@ ResultNeverStalls = (g : Graph) (proposed : List Edge) → OffCycles g proposed 
 abbrev pub ResultOrders : Type 0
 ResultOrders =
     (g : Graph) (proposed : List Edge) → OffCycles g proposed →
-    ((e : Edge) → e ∈ edges g → OrderHeld (edges (result g proposed)) e) ↔
-    ((K : ℕ) (start dur : Times) → Allows (count g) (edges (result g proposed)) K start dur → Allows (count g) (edges g) K start dur)
+    AllHeld (edges (result g proposed)) (edges g) ↔ RunsAllowed (count g) (edges (result g proposed)) (edges g)
 
 abbrev pub ResultLost : Type 0
 ResultLost =
     (g : Graph) (proposed : List Edge) → OffCycles g proposed →
-    ((e : Edge) × e ∈ edges g × (OrderHeld (edges (result g proposed)) e → ⊥)) ↔
-    ((K : ℕ) × (start : Times) × (dur : Times) × Allows (count g) (edges (result g proposed)) K start dur × Breaks (count g) (edges g) K start dur)
+    SomeLost (edges (result g proposed)) (edges g) ↔ SomeRunBreaks (count g) (edges (result g proposed)) (edges g)
 
 abbrev pub ResultMisses : Type 0
 ResultMisses =
@@ -199,7 +195,7 @@ ResultMisses =
 -- same cycles, and in its earliest run the output's first turn ends by the bound, whatever later turns take, if no first turn exceeds its
 -- estimate.
 pub record Resynchronizes (g r : Graph) : Type 0 where
-  pub runs-allowed : (K : ℕ) (start dur : Times) → Allows (count g) (edges r) K start dur → Allows (count g) (edges g) K start dur
+  pub runs-allowed : RunsAllowed (count g) (edges r) (edges g)
   pub never-stalls : NeverStalls (count g) (edges r)
   pub cycles : SameCycles (edges g) (edges r)
   pub in-time :
@@ -215,10 +211,8 @@ AcceptedResult =
 abbrev pub AcceptedIff : Type 0
 AcceptedIff =
     (g : Graph) (proposed : List Edge) → AcceptedGraph g → WellFormedEdges (count g) proposed →
-    ((e : Edge) → e ∈ proposed → OnCycle (edges (result g proposed)) e → ⊥) →
-    AcceptedProposal g proposed ↔
-    (((K : ℕ) (start dur : Times) → Allows (count g) (edges (result g proposed)) K start dur → Allows (count g) (edges g) K start dur) ×
-    (MissesBound (result g proposed) → ⊥))
+    NoneOnCycle (edges (result g proposed)) proposed →
+    AcceptedProposal g proposed ↔ (RunsAllowed (count g) (edges (result g proposed)) (edges g) × (MissesBound (result g proposed) → ⊥))
 
 -- ── 7. Redundant edges, dropped together ──
 
@@ -226,7 +220,7 @@ AcceptedIff =
 abbrev pub DroppedTogether : Type 0
 DroppedTogether =
     (g : Graph) → Ends (count g) (g .syncs) → NoZeroCycle (edges g) → Distinct (g .syncs) → (marked : ℕ → Bool) →
-    ((i : ℕ) → i < length (g .syncs) → T (marked i) → Redundant g i) → (e : Edge) → e ∈ edges g → OrderHeld (edges (dropping g marked)) e
+    ((i : ℕ) → i < length (g .syncs) → T (marked i) → Redundant g i) → AllHeld (edges (dropping g marked)) (edges g)
 
 -- An edge out of the source of e, other than the one at place i, leads to the sink of e, alone or followed by a least path of the whole graph,
 -- within the delay of e.
