@@ -1,4 +1,7 @@
 // Fields of bits in a list of bytes, most significant bit first, and the reader that keeps the bytes and a bit position.
+mod reader;
+
+pub use reader::Reader;
 ghost use mathlib.Core.Path.{_≡_};
 ghost use Prim.Native.Nat.{_+_, _*_, _≤_, _<_, _^_};
 ghost use lib.ListN.{getD};

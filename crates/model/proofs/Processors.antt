@@ -108,6 +108,10 @@ edge-unique {ts} (around l last w z) (onward l′ n z′) q = absurd (last-no-ne
 edge-unique {ts} {e} (around l last w z) (around l′ last′ w′ z′) q =
     edge-equal q (first-unique (subst (λ (v : ℕ). First ts v (e .sink)) q w) w′) (z ∙ sym z′)
 
+-- a processor edge out of task v is the one that is listed for v
+pub edge-is : (ts : List Task) (v : ℕ) {e : Edge} → v < length ts → ProcessorEdge ts e → e .source ≡ v → e ≡ processorEdge ts v
+edge-is ts v below out from = edge-unique out (edge-out ts v below) (from ∙ sym (edge-source ts v))
+
 -- ── The list ──
 
 listed : (ts : List Task) (v : ℕ) → v < length ts → processorEdge ts v ∈ processorEdges ts
