@@ -1,0 +1,139 @@
+-- The first refusal of a list of checks: a check that passes is left out, one that refuses is the answer. Over the places below n it is the one at
+-- the place where every earlier one passes.
+use mathlib.Core.Path.{_≡_, refl, sym, ap, _∙_, subst}
+use mathlib.Core.Logic.{_⊎_, inl, inr, _≢_}
+use mathlib.Core.Bool.{Bool, true, false}
+use mathlib.Core.List.{List, [], _∷_, _++_}
+use Prim.Native.Nat.{ℕ, zero, suc, _<_, _≤_}
+use native.Mathlib.Nat.{not-suc-le-zero}
+use native.Mathlib.Omega.{arith}
+use Rattle.model.specs.Lists.{tabulate}
+use Rattle.model.proofs.Basics.{below-suc}
+use Rattle.model.proofs.Tests.{decided, eqb-decides}
+use Rattle.files.proofs.Fill.{tabulate-same}
+use Rattle.files.specs.declared.Refusal.{Refusal}
+use Rattle.files.specs.Refusals.{notRefused, refuse, choose, first}
+use Rattle.files.specs.Files.{firstOf}
+
+pub choose-later : (n : ℕ) (r later : Refusal) → n ≡ 0 → choose n r later ≡ later
+unfolding choose
+choose-later n r later none = ap (λ (m : ℕ). choose m r later) none
+
+pub choose-this : (n : ℕ) (r later : Refusal) → n ≢ 0 → choose n r later ≡ r
+unfolding choose
+choose-this zero r later some = absurd (some refl)
+choose-this (suc n) r later some = refl
+
+pub passes : (r : Refusal) (rs : List Refusal) → r .number ≡ 0 → first (r ∷ rs) ≡ first rs
+unfolding first
+passes r rs none = choose-later (r .number) r (first rs) none
+
+pub stops : (r : Refusal) (rs : List Refusal) → r .number ≢ 0 → first (r ∷ rs) ≡ r
+unfolding first
+stops r rs some = choose-this (r .number) r (first rs) some
+
+pub refused : {b : Bool} (n p : ℕ) → b ≡ true → refuse b n p ≡ record { number = n; place = p }
+unfolding refuse
+refused n p is = ap (λ (b : Bool). refuse b n p) is
+
+pub not-refused : {b : Bool} (n p : ℕ) → b ≡ false → refuse b n p ≡ notRefused
+unfolding refuse
+not-refused n p is = ap (λ (b : Bool). refuse b n p) is
+
+pub number-same : {r q : Refusal} → r ≡ q → r .number ≡ q .number
+number-same e = ap (λ (x : Refusal). x .number) e
+
+-- one check at the front of the others
+pub check-passes : {b : Bool} (n p : ℕ) (rs : List Refusal) → b ≡ false → first (refuse b n p ∷ rs) ≡ first rs
+check-passes n p rs is = ap (λ (r : Refusal). first (r ∷ rs)) (not-refused n p is) ∙ passes notRefused rs refl
+
+pub check-stops : {b : Bool} (n p : ℕ) (rs : List Refusal) → n ≢ 0 → b ≡ true → first (refuse b n p ∷ rs) ≡ record { number = n; place = p }
+check-stops n p rs some is =
+    ap (λ (r : Refusal). first (r ∷ rs)) (refused n p is) ∙ stops (record { number = n; place = p }) rs some
+
+pub no-checks : first [] ≡ notRefused
+unfolding first
+no-checks = refl
+
+-- a number is 0 or not
+pub zero-or-not : (n : ℕ) → (n ≡ 0) ⊎ (n ≢ 0)
+zero-or-not n = decided (eqb-decides n 0)
+
+-- of two lists of checks, one after the other
+pub passed-all : (rs later : List Refusal) → first rs .number ≡ 0 → first (rs ++ later) ≡ first later
+passed-all [] later none = refl
+passed-all (r ∷ rs) later none = go (zero-or-not (r .number)) (passed-all rs later)
+  where
+    go : (r .number ≡ 0) ⊎ (r .number ≢ 0) → (first rs .number ≡ 0 → first (rs ++ later) ≡ first later) → first (r ∷ rs ++ later) ≡ first later
+    go (inl z) rest = passes r (rs ++ later) z ∙ rest (number-same (sym (passes r rs z)) ∙ none)
+    go (inr s) rest = absurd (s (number-same (sym (stops r rs s)) ∙ none))
+
+pub stopped-before : (rs later : List Refusal) → first rs .number ≢ 0 → first (rs ++ later) ≡ first rs
+unfolding first
+stopped-before [] later some = absurd (some refl)
+stopped-before (r ∷ rs) later some = go (zero-or-not (r .number)) (stopped-before rs later)
+  where
+    go : (r .number ≡ 0) ⊎ (r .number ≢ 0) → (first rs .number ≢ 0 → first (rs ++ later) ≡ first rs) → first (r ∷ rs ++ later) ≡ first (r ∷ rs)
+    go (inl z) rest = passes r (rs ++ later) z ∙ (rest (λ e. some (number-same (passes r rs z) ∙ e)) ∙ sym (passes r rs z))
+    go (inr s) rest = stops r (rs ++ later) s ∙ sym (stops r rs s)
+
+pub nowhere : (n : ℕ) (f : ℕ → Refusal) → ((i : ℕ) → i < n → f i ≡ notRefused) → firstOf n f ≡ notRefused
+unfolding firstOf first tabulate
+nowhere zero f none = refl
+nowhere (suc n) f none =
+    let before : firstOf n f ≡ notRefused = nowhere n f (λ i l. none i (omega arith)) in
+    passed-all (tabulate n f) (f n ∷ []) (number-same before) ∙
+    passes (f n) [] (number-same (none n (omega arith)))
+
+pub at-place : (n : ℕ) (f : ℕ → Refusal) (k : ℕ) → k < n → ((i : ℕ) → i < k → f i ≡ notRefused) → f k .number ≢ 0 → firstOf n f ≡ f k
+unfolding firstOf first tabulate
+at-place zero f k below none some = absurd (not-suc-le-zero below)
+at-place (suc n) f k below none some = go (below-suc below) (λ l. at-place n f k l none some)
+  where
+    go : (k < n) ⊎ (k ≡ n) → (k < n → firstOf n f ≡ f k) → first (tabulate n f ++ (f n ∷ [])) ≡ f k
+    go (inl l) shorter =
+        stopped-before (tabulate n f) (f n ∷ []) (λ e. some (number-same (sym (shorter l)) ∙ e)) ∙ shorter l
+    go (inr e) shorter =
+        passed-all (tabulate n f) (f n ∷ []) (number-same (nowhere n f (λ i l. none i (subst (λ (m : ℕ). i < m) (sym e) l)))) ∙
+        (stops (f n) [] (subst (λ (m : ℕ). f m .number ≢ 0) e some) ∙ ap f (sym e))
+
+pub same-checks : (n : ℕ) (f g : ℕ → Refusal) → ((i : ℕ) → i < n → f i ≡ g i) → firstOf n f ≡ firstOf n g
+unfolding firstOf first tabulate
+same-checks n f g same = ap first (tabulate-same n f g same)
+
+-- a search that ends at place k with a refusal
+pub stops-at :
+    (n : ℕ) (f : ℕ → Refusal) {k : ℕ} {r : Refusal} → k < n → ((i : ℕ) → i < k → f i ≡ notRefused) → f k ≡ r → r .number ≢ 0
+    → firstOf n f ≡ r
+stops-at n f {k} below none is some = at-place n f k below none (λ z. some (number-same (sym is) ∙ z)) ∙ is
+
+-- a search that ends after place n
+pub stops-nowhere : (n : ℕ) (f : ℕ → Refusal) {k : ℕ} → n ≤ k → ((i : ℕ) → i < k → f i ≡ notRefused) → firstOf n f ≡ notRefused
+stops-nowhere n f end none = nowhere n f (λ i l. none i (omega arith))
+
+-- a check that was made: the chain ends with it, or goes on
+pub ends-with : {r q : Refusal} (rs : List Refusal) → r ≡ q → r .number ≢ 0 → first (q ∷ rs) ≡ r
+ends-with {r} {q} rs is some = stops q rs (λ z. some (number-same is ∙ z)) ∙ sym is
+
+pub goes-on : {r q : Refusal} (rs : List Refusal) → r ≡ q → r .number ≡ 0 → first (q ∷ rs) ≡ first rs
+goes-on {r} {q} rs is none = passes q rs (number-same (sym is) ∙ none)
+
+-- a check that does not refuse gives place 0 too, so the last one of a chain is its answer
+pub one-check : (b : Bool) (n p : ℕ) → n ≢ 0 → first (refuse b n p ∷ []) ≡ refuse b n p
+one-check true n p some = check-stops n p [] some refl ∙ sym (refused n p refl)
+one-check false n p some = check-passes n p [] refl ∙ (no-checks ∙ sym (not-refused n p refl))
+
+pub none-refused : (rs : List Refusal) → first rs .number ≡ 0 → first rs ≡ notRefused
+none-refused [] none = no-checks
+none-refused (r ∷ rs) none = go (zero-or-not (r .number)) (none-refused rs)
+  where
+    go : (r .number ≡ 0) ⊎ (r .number ≢ 0) → (first rs .number ≡ 0 → first rs ≡ notRefused) → first (r ∷ rs) ≡ notRefused
+    go (inl z) rest = passes r rs z ∙ rest (number-same (sym (passes r rs z)) ∙ none)
+    go (inr s) rest = absurd (s (number-same (sym (stops r rs s)) ∙ none))
+
+pub last-answer : (rs : List Refusal) → first (first rs ∷ []) ≡ first rs
+last-answer rs = go (zero-or-not (first rs .number))
+  where
+    go : (first rs .number ≡ 0) ⊎ (first rs .number ≢ 0) → first (first rs ∷ []) ≡ first rs
+    go (inl z) = passes (first rs) [] z ∙ (no-checks ∙ sym (none-refused rs z))
+    go (inr s) = stops (first rs) [] s

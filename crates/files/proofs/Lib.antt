@@ -1,0 +1,10 @@
+pub mod Fill
+pub mod Parts
+pub mod Whole
+pub mod First
+pub mod Single
+pub mod Repeats
+pub mod Frame
+pub mod Passed
+pub mod Answers
+pub mod Example

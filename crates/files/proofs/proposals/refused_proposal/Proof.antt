@@ -1,0 +1,12 @@
+-- `files::proposals::refused_proposal` meets its contract: every array is filled with 0.
+use mathlib.Core.Path.{refl}
+use Rattle.files.specs.Working.{zeros, refusedProposal}
+use Rattle.files.proofs.proposals.refused_proposal.Statement.{statement}
+use Rattle.files.proofs.proposals.refused_proposal.Tie as tie
+
+returns : tie.Need-returns
+unfolding refusedProposal zeros
+returns c = refl
+
+pub refused-proposal-spec : {M : Type 1} → statement M
+refused-proposal-spec = tie.close (tie.spec returns)

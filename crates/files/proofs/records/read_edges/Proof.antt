@@ -1,0 +1,98 @@
+-- `files::records::read_edges` meets its contract: after j turns the first j elements of the three lists are those of the first j edges.
+use mathlib.Core.Path.{_≡_, refl, sym, ap, _∙_}
+use Prim.Native.Nat.{ℕ, _+_, _-_, _*_, _≤_, _<_}
+use native.Mathlib.Omega.{arith}
+use borrow.Author.Needs.{needs}
+use lib.ListN.{length}
+use Rattle.layout.specs.Layout.{recordStart, edgeAt}
+use Rattle.files.proofs.Fill.{Filled, filled-none, filled-more, filled-all}
+use Rattle.files.proofs.records.read_edges.Statement.{statement}
+use Rattle.files.proofs.records.read_edges.Tie as tie
+
+abbrev Inv-loop : tie.InvT-loop
+Inv-loop bytes position source₀ sink₀ delay₀ at₀ j₀ source sink delay at j =
+    (j ≤ length source₀) ×
+    (at ≡ recordStart position j) ×
+    Filled (λ i. edgeAt bytes (recordStart position i) .source) (length source₀) j source ×
+    Filled (λ i. edgeAt bytes (recordStart position i) .sink) (length source₀) j sink ×
+    Filled (λ i. edgeAt bytes (recordStart position i) .delay) (length source₀) j delay
+
+abbrev μ-loop : tie.MeasureT-loop
+μ-loop bytes position source₀ sink₀ delay₀ at₀ j₀ source sink delay at j = length source₀ - j
+
+loop-holds : tie.Need-loop-holds Inv-loop μ-loop
+loop-holds c =
+    let asked = c .before .before .before .before .pre in
+    (omega arith, omega arith, filled-none _ _ refl, filled-none _ _ (asked .1 .1 .0), filled-none _ _ (asked .1 .1 .1))
+
+edge-at-requires : tie.Need-edge-at-requires Inv-loop μ-loop
+edge-at-requires c κs = search needs
+
+slice-write-source : tie.Need-slice-write-source Inv-loop μ-loop
+slice-write-source c = omega arith
+
+slice-write-sink : tie.Need-slice-write-sink Inv-loop μ-loop
+slice-write-sink c = omega (arith, c .before .before .loop .inv .2 .size, c .before .before .loop .inv .3 .size)
+
+slice-write-delay : tie.Need-slice-write-delay Inv-loop μ-loop
+slice-write-delay c = omega (arith, c .before .before .loop .inv .2 .size, c .before .before .loop .inv .4 .size)
+
+add-at : tie.Need-add-at Inv-loop μ-loop
+add-at c =
+    let asked = c .before .before .before .before .before .before .before .pre in
+    omega (arith, asked .0, asked .1 .0)
+
+add-j : tie.Need-add-j Inv-loop μ-loop
+add-j c = omega arith
+
+loop-less : tie.Need-loop-less Inv-loop μ-loop
+loop-less c = omega (arith, c .before .before .loop .inv .2 .size)
+
+loop-again : tie.Need-loop-again Inv-loop μ-loop
+loop-again c =
+    let inv = c .before .before .loop .inv in
+    let start = c .before .before .before .before .before .before .before in
+    let bytes = start .args .bytes .now in
+    let below : c .before .before .loop .j < length (start .args .source .now) = omega (arith, inv .2 .size) in (
+      omega (arith, inv .2 .size),
+      omega arith,
+      filled-more _ (inv .2) below (c .edge-at .ensures .0 ∙ ap (λ (p : ℕ). edgeAt bytes p .source) (inv .1)),
+      filled-more _ (inv .3) below (c .edge-at .ensures .1 .0 ∙ ap (λ (p : ℕ). edgeAt bytes p .sink) (inv .1)),
+      filled-more _ (inv .4) below (c .edge-at .ensures .1 .1 ∙ ap (λ (p : ℕ). edgeAt bytes p .delay) (inv .1)),
+    )
+
+same-length : tie.Need-same-length Inv-loop μ-loop
+same-length c = c .before .loop .inv .2 .size
+
+same-length-2 : tie.Need-same-length-2 Inv-loop μ-loop
+same-length-2 c = c .before .loop .inv .3 .size ∙ sym (c .before .before .before .before .before .before .pre .1 .1 .0)
+
+same-length-3 : tie.Need-same-length-3 Inv-loop μ-loop
+same-length-3 c = c .before .loop .inv .4 .size ∙ sym (c .before .before .before .before .before .before .pre .1 .1 .1)
+
+returns : tie.Need-returns Inv-loop μ-loop
+returns c =
+    let inv = c .before .loop .inv in
+    let whole : c .before .loop .j ≡ length (c .before .before .before .before .before .before .args .source .now)
+    = omega (arith, inv .2 .size) in
+    (filled-all (inv .2) whole, (filled-all (inv .3) whole, filled-all (inv .4) whole))
+
+pub read-edges-spec : {M : Type 1} → statement M
+read-edges-spec =
+    tie.close
+    (tie.spec
+    Inv-loop
+    μ-loop
+    loop-holds
+    edge-at-requires
+    slice-write-source
+    slice-write-sink
+    slice-write-delay
+    add-at
+    add-j
+    loop-less
+    loop-again
+    same-length
+    same-length-2
+    same-length-3
+    returns)

@@ -1,0 +1,108 @@
+-- The working form of what a file holds: lists of a fixed length, 0 past the end. Of a graph, the edges that order it stand in one list, processor
+-- edges first (entry v is the one out of task v), then those of the file. Of a refused file, number and place, and 0 elsewhere.
+use mathlib.Core.List.{List, _++_}
+use mathlib.Core.Path.{_≡_}
+use Prim.Native.Nat.{ℕ, zero, suc, _-_, _<_}
+use lib.ListN.{length, getD, take, drop, replicate}
+use Rattle.model.specs.Lists.{tabulate}
+use Rattle.model.specs.Tasks.{Task, Edge, noTask, noEdge, processorOf}
+use Rattle.model.specs.Graph.{Graph, timeOf, edges}
+use Rattle.layout.specs.declared.EdgeRecord.{EdgeRecord}
+use Rattle.files.specs.declared.Refusal.{Refusal}
+use Rattle.files.specs.declared.GraphReading.{GraphReading}
+use Rattle.files.specs.declared.ProposalReading.{ProposalReading}
+use Rattle.files.specs.Refusals.{notRefused}
+use Rattle.files.specs.Files.{edgeIn, graphOf, graphRefusal, proposalOf, proposalRefusal}
+
+unfoldable pub zeros : ℕ → List ℕ
+zeros n = replicate n 0
+
+unfoldable pub workingGraph : Graph → GraphReading
+workingGraph g = record {
+  refusal = notRefused;
+  tasks = length (g .tasks);
+  edges = length (g .syncs);
+  input = g .input;
+  output = g .output;
+  bound = g .bound;
+  processor = tabulate 64 (processorOf (g .tasks));
+  time = tabulate 64 (timeOf g);
+  source = tabulate 320 (λ i. edgeIn (edges g) i .source);
+  sink = tabulate 320 (λ i. edgeIn (edges g) i .sink);
+  delay = tabulate 320 (λ i. edgeIn (edges g) i .delay);
+}
+
+unfoldable pub refusedGraph : Refusal → GraphReading
+refusedGraph r = record {
+  refusal = r;
+  tasks = 0;
+  edges = 0;
+  input = 0;
+  output = 0;
+  bound = 0;
+  processor = zeros 64;
+  time = zeros 64;
+  source = zeros 320;
+  sink = zeros 320;
+  delay = zeros 320;
+}
+
+unfoldable pub ifPassed : {A : Type 0} → ℕ → A → A → A
+ifPassed zero read refused = read
+ifPassed (suc n) read refused = refused
+
+-- the graph, if nothing is refused
+unfoldable pub graphAnswer : Refusal → Graph → GraphReading
+graphAnswer r g = ifPassed (r .number) (workingGraph g) (refusedGraph r)
+
+-- what reading a graph file gives
+unfoldable pub graphReading : List ℕ → GraphReading
+graphReading s = graphAnswer (graphRefusal s) (graphOf s)
+
+unfoldable pub workingProposal : List Edge → ProposalReading
+workingProposal es = record {
+  refusal = notRefused;
+  edges = length es;
+  source = tabulate 256 (λ i. edgeIn es i .source);
+  sink = tabulate 256 (λ i. edgeIn es i .sink);
+  delay = tabulate 256 (λ i. edgeIn es i .delay);
+}
+
+unfoldable pub refusedProposal : Refusal → ProposalReading
+refusedProposal r = record { refusal = r; edges = 0; source = zeros 256; sink = zeros 256; delay = zeros 256 }
+
+-- the proposed edges, if nothing is refused
+unfoldable pub proposalAnswer : Refusal → List Edge → ProposalReading
+proposalAnswer r es = ifPassed (r .number) (workingProposal es) (refusedProposal r)
+
+-- what reading a proposal file gives, beside a graph of n tasks
+unfoldable pub proposalReading : ℕ → List ℕ → ProposalReading
+proposalReading n s = proposalAnswer (proposalRefusal n s) (proposalOf s)
+
+-- A list of numbers holds one number of each of a list's elements, in their sequence.
+pub record Column {A : Type 0} (missing : A) (part : A → ℕ) (rows : List A) (column : List ℕ) : Type 0 where
+  pub as-many : length column ≡ length rows
+  pub same : (i : ℕ) → i < length rows → getD column i 0 ≡ part (getD rows i missing)
+
+abbrev pub ProcessorsOf : List Task → List ℕ → Type 0
+ProcessorsOf ts column = Column noTask (λ t. t .processor) ts column
+
+abbrev pub TimesOf : List Task → List ℕ → Type 0
+TimesOf ts column = Column noTask (λ t. t .time) ts column
+
+abbrev pub SourcesOf : List Edge → List ℕ → Type 0
+SourcesOf es column = Column noEdge (λ e. e .source) es column
+
+abbrev pub SinksOf : List Edge → List ℕ → Type 0
+SinksOf es column = Column noEdge (λ e. e .sink) es column
+
+abbrev pub DelaysOf : List Edge → List ℕ → Type 0
+DelaysOf es column = Column noEdge (λ e. e .delay) es column
+
+-- an edge record as an edge
+unfoldable pub edgeOf : EdgeRecord → Edge
+edgeOf r = record { source = r .source; sink = r .sink; delay = r .delay }
+
+-- the list with f 0, f 1, .. in the places from a start to an end
+unfoldable pub withPart : ℕ → ℕ → (ℕ → ℕ) → List ℕ → List ℕ
+withPart start end f xs = take start xs ++ (tabulate (end - start) f ++ drop end xs)

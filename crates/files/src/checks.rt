@@ -1,0 +1,133 @@
+// The checks of tasks and edges: each gives the first refusal over a list, in the file's sequence. The contracts speak of the tasks
+// and edges whose numbers the lists hold.
+ghost use mathlib.Core.Path.{_≡_};
+ghost use mathlib.Core.List.{List, [], _∷_};
+ghost use Prim.Native.Nat.{ℕ, suc, _+_, _≤_, _<_, _^_};
+ghost use lib.ListN.{length, getD};
+ghost use Rattle.model.specs.Tasks.{Task, Edge, noEdge};
+ghost use Rattle.model.specs.Graph.{Graph};
+ghost use Rattle.files.specs.Files.{firstOf, timeRefusal, endsRefusal, edgeRefusal, repeatRefusal, repeatsEarlier};
+ghost use Rattle.files.specs.Working.{ProcessorsOf, TimesOf, SourcesOf, SinksOf, DelaysOf};
+use crate::Refusal;
+
+// 5: the first task whose time is 0.
+pub fn times_refusal(time: &[u16]) -> Refusal
+    requires { ⌜ length (now time) ≤ 64 ⌝ }
+    ensures { λ r. ⌜ ((g : Graph) → TimesOf (g .tasks) (now (time .entry)) → r ≡ firstOf (length (g .tasks)) (timeRefusal g)) ⌝ }
+{
+    let mut v = 0;
+    while v < time.len() {
+        if time[v] == 0 {
+            return Refusal {
+                number: 5,
+                place: v as u32,
+            };
+        }
+        v += 1;
+    }
+    Refusal {
+        number: 0,
+        place: 0,
+    }
+}
+
+// 6: the first edge with an end that is not below the number of tasks.
+pub fn ends_refusal<'a>(tasks: usize, source: &'a [u8], sink: &'a [u8]) -> Refusal
+    requires { ⌜ length (now source) ≤ 256 ⌝ }
+    requires { ⌜ length (now sink) ≡ length (now source) ⌝ }
+    ensures { λ r. ⌜ ((es : List Edge) → SourcesOf es (now (source .entry)) → SinksOf es (now (sink .entry)) → r ≡ firstOf (length es) (endsRefusal tasks es)) ⌝ }
+{
+    let mut j = 0;
+    while j < source.len() {
+        let from = source[j] as usize;
+        let to = sink[j] as usize;
+        if from >= tasks || to >= tasks {
+            return Refusal {
+                number: 6,
+                place: j as u32 + 1,
+            };
+        }
+        j += 1;
+    }
+    Refusal {
+        number: 0,
+        place: 0,
+    }
+}
+
+// 6 then 7: the first edge with an end that is not below the number of tasks, or with both ends on one processor.
+pub fn edges_refusal<'a>(processor: &'a [u8], source: &'a [u8], sink: &'a [u8]) -> Refusal
+    requires { ⌜ length (now source) ≤ 256 ⌝ }
+    requires { ⌜ length (now sink) ≡ length (now source) ⌝ }
+    ensures { λ r. ⌜ ((ts : List Task) (es : List Edge) → ProcessorsOf ts (now (processor .entry)) → SourcesOf es (now (source .entry)) → SinksOf es (now (sink .entry)) → r ≡ firstOf (length es) (edgeRefusal ts es)) ⌝ }
+{
+    let mut j = 0;
+    while j < source.len() {
+        let from = source[j] as usize;
+        let to = sink[j] as usize;
+        if from >= processor.len() || to >= processor.len() {
+            return Refusal {
+                number: 6,
+                place: j as u32 + 1,
+            };
+        }
+        if processor[from] == processor[to] {
+            return Refusal {
+                number: 7,
+                place: j as u32 + 1,
+            };
+        }
+        j += 1;
+    }
+    Refusal {
+        number: 0,
+        place: 0,
+    }
+}
+
+// Whether edge j has the source, sink and delay of an earlier one.
+fn repeats_earlier<'a>(source: &'a [u8], sink: &'a [u8], delay: &'a [u8], j: usize) -> bool
+    requires { ⌜ j < length (now source) ⌝ }
+    requires { ⌜ length (now sink) ≡ length (now source) ⌝ }
+    requires { ⌜ length (now delay) ≡ length (now source) ⌝ }
+    ensures { λ r. ⌜ ((es : List Edge) → SourcesOf es (now (source .entry)) → SinksOf es (now (sink .entry)) → DelaysOf es (now (delay .entry)) → r ≡ repeatsEarlier es j) ⌝ }
+{
+    let from = source[j];
+    let to = sink[j];
+    let turns = delay[j];
+    let mut i = 0;
+    while i < j {
+        if source[i] == from {
+            if sink[i] == to {
+                if delay[i] == turns {
+                    return true;
+                }
+            }
+        }
+        i += 1;
+    }
+    false
+}
+
+// 8: the first edge that repeats an earlier one.
+pub fn repeats_refusal<'a>(source: &'a [u8], sink: &'a [u8], delay: &'a [u8]) -> Refusal
+    requires { ⌜ length (now source) ≤ 256 ⌝ }
+    requires { ⌜ length (now sink) ≡ length (now source) ⌝ }
+    requires { ⌜ length (now delay) ≡ length (now source) ⌝ }
+    ensures { λ r. ⌜ ((es : List Edge) → SourcesOf es (now (source .entry)) → SinksOf es (now (sink .entry)) → DelaysOf es (now (delay .entry)) → r ≡ firstOf (length es) (repeatRefusal es)) ⌝ }
+{
+    let mut j = 0;
+    while j < source.len() {
+        if repeats_earlier(source, sink, delay, j) {
+            return Refusal {
+                number: 8,
+                place: j as u32 + 1,
+            };
+        }
+        j += 1;
+    }
+    Refusal {
+        number: 0,
+        place: 0,
+    }
+}

@@ -1,0 +1,139 @@
+// Reading a graph file.
+ghost use mathlib.Core.Path.{_≡_};
+ghost use mathlib.Core.List.{List};
+ghost use Prim.Native.Nat.{ℕ, _≤_};
+ghost use lib.ListN.{length};
+ghost use Rattle.model.specs.Graph.{Graph};
+ghost use Rattle.layout.specs.Layout.{graphHeader};
+ghost use Rattle.files.specs.Files.{graphOf, graphRecordsRefusal};
+ghost use Rattle.files.specs.Working.{ProcessorsOf, TimesOf, SourcesOf, SinksOf, DelaysOf, zeros, workingGraph, refusedGraph, graphReading};
+use crate::GraphReading;
+use crate::Refusal;
+use crate::checks::edges_refusal;
+use crate::checks::repeats_refusal;
+use crate::checks::times_refusal;
+use crate::headers::graph_frame_refusal;
+use crate::records::edges_into;
+use crate::records::processor_edges_into;
+use crate::records::tasks_into;
+use layout::GraphHeader;
+
+// What is read of a refused file: the refusal, and 0 elsewhere.
+fn refused_graph(refusal: Refusal) -> GraphReading
+    ensures { λ r. ⌜ r ≡ refusedGraph refusal ⌝ }
+{
+    GraphReading {
+        refusal,
+        tasks: 0,
+        edges: 0,
+        input: 0,
+        output: 0,
+        bound: 0,
+        processor: [0; 64],
+        time: [0; 64],
+        source: [0; 320],
+        sink: [0; 320],
+        delay: [0; 320],
+    }
+}
+
+// Tasks 5; each edge 6 then 7; then 8.
+fn records_refusal<'a>(
+    processor: &'a [u8],
+    time: &'a [u16],
+    source: &'a [u8],
+    sink: &'a [u8],
+    delay: &'a [u8],
+) -> Refusal
+    requires { ⌜ length (now time) ≤ 64 ⌝ }
+    requires { ⌜ length (now source) ≤ 256 ⌝ }
+    requires { ⌜ length (now sink) ≡ length (now source) ⌝ }
+    requires { ⌜ length (now delay) ≡ length (now source) ⌝ }
+    ensures { λ r. ⌜ ((g : Graph) → ProcessorsOf (g .tasks) (now (processor .entry)) → TimesOf (g .tasks) (now (time .entry)) → SourcesOf (g .syncs) (now (source .entry)) → SinksOf (g .syncs) (now (sink .entry)) → DelaysOf (g .syncs) (now (delay .entry)) → r ≡ graphRecordsRefusal g) ⌝ }
+{
+    let times = times_refusal(time);
+    if times.number != 0 {
+        return times;
+    }
+    let edges = edges_refusal(processor, source, sink);
+    if edges.number != 0 {
+        return edges;
+    }
+    repeats_refusal(source, sink, delay)
+}
+
+// The tasks and edges of a file whose header passed, into lists of zeros, and what is judged of them.
+fn graph_records<'a>(
+    bytes: &[u8],
+    header: GraphHeader,
+    processor: &'a mut [u8],
+    time: &'a mut [u16],
+    source: &'a mut [u8],
+    sink: &'a mut [u8],
+    delay: &'a mut [u8],
+) -> Refusal
+    requires { ⌜ header ≡ graphHeader (now bytes) ⌝ }
+    requires { ⌜ (header .tasks ≤ 64) × (header .edges ≤ 256) ⌝ }
+    requires { ⌜ (now processor ≡ zeros 64) × (now time ≡ zeros 64) ⌝ }
+    requires { ⌜ (now source ≡ zeros 320) × (now sink ≡ zeros 320) × (now delay ≡ zeros 320) ⌝ }
+    ensures refusal { λ r. ⌜ r ≡ graphRecordsRefusal (graphOf (now (bytes .entry))) ⌝ }
+    ensures processor { λ _. ⌜ now (processor .exit) ≡ workingGraph (graphOf (now (bytes .entry))) .processor ⌝ }
+    ensures time { λ _. ⌜ now (time .exit) ≡ workingGraph (graphOf (now (bytes .entry))) .time ⌝ }
+    ensures source { λ _. ⌜ now (source .exit) ≡ workingGraph (graphOf (now (bytes .entry))) .source ⌝ }
+    ensures sink { λ _. ⌜ now (sink .exit) ≡ workingGraph (graphOf (now (bytes .entry))) .sink ⌝ }
+    ensures delay { λ _. ⌜ now (delay .exit) ≡ workingGraph (graphOf (now (bytes .entry))) .delay ⌝ }
+{
+    let tasks = header.tasks as usize;
+    let end = tasks + header.edges as usize;
+    tasks_into(bytes, tasks, processor, time);
+    processor_edges_into(tasks, processor, source, sink, delay);
+    edges_into(bytes, 56 + 20 * tasks, tasks, end, source, sink, delay);
+    records_refusal(
+        &processor[0..tasks],
+        &time[0..tasks],
+        &source[tasks..end],
+        &sink[tasks..end],
+        &delay[tasks..end],
+    )
+}
+
+// The graph that a file holds, in its working form, or the refusal of 1 to 8 that it gets: for every list of bytes.
+pub fn read_graph(bytes: &[u8]) -> GraphReading
+    ensures { λ r. ⌜ r ≡ graphReading (now (bytes .entry)) ⌝ }
+{
+    let header = layout::graph_header(bytes);
+    let frame = graph_frame_refusal(bytes, header);
+    if frame.number != 0 {
+        return refused_graph(frame);
+    }
+    let mut processor = [0u8; 64];
+    let mut time = [0u16; 64];
+    let mut source = [0u8; 320];
+    let mut sink = [0u8; 320];
+    let mut delay = [0u8; 320];
+    let refusal = graph_records(
+        bytes,
+        header,
+        &mut processor,
+        &mut time,
+        &mut source,
+        &mut sink,
+        &mut delay,
+    );
+    if refusal.number != 0 {
+        return refused_graph(refusal);
+    }
+    GraphReading {
+        refusal,
+        tasks: header.tasks,
+        edges: header.edges,
+        input: header.input,
+        output: header.output,
+        bound: header.bound,
+        processor,
+        time,
+        source,
+        sink,
+        delay,
+    }
+}

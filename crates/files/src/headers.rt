@@ -1,0 +1,185 @@
+// The checks of a file's header, length and filling, in document 01's sequence.
+ghost use mathlib.Core.Path.{_≡_};
+ghost use mathlib.Core.List.{List};
+ghost use Prim.Native.Nat.{ℕ, _≤_};
+ghost use lib.ListN.{length};
+ghost use Rattle.layout.specs.Layout.{graphHeader, proposalHeader, bytesFor};
+ghost use Rattle.files.specs.Files.{graphHeaderRefusal, proposalHeaderRefusal, lengthRefusal, fillingRefusal, zerosRefusal, headerEndsRefusal, graphFrameRefusal, proposalFrameRefusal};
+use crate::Refusal;
+use layout::GraphHeader;
+use layout::ProposalHeader;
+
+// Header 1, 2, 3 of a graph.
+fn graph_header_refusal(bytes: &[u8], header: GraphHeader) -> Refusal
+    requires { ⌜ header ≡ graphHeader (now bytes) ⌝ }
+    ensures { λ r. ⌜ r ≡ graphHeaderRefusal (now (bytes .entry)) ⌝ }
+{
+    if bytes.len() < 7 {
+        return Refusal {
+            number: 1,
+            place: 0,
+        };
+    }
+    if header.version != 1 {
+        return Refusal {
+            number: 2,
+            place: 0,
+        };
+    }
+    if header.tasks < 2 || header.tasks > 64 || header.edges > 256 {
+        return Refusal {
+            number: 3,
+            place: 0,
+        };
+    }
+    Refusal {
+        number: 0,
+        place: 0,
+    }
+}
+
+// Header 1, 2, 3 of a proposal.
+fn proposal_header_refusal(bytes: &[u8], header: ProposalHeader) -> Refusal
+    requires { ⌜ header ≡ proposalHeader (now bytes) ⌝ }
+    ensures { λ r. ⌜ r ≡ proposalHeaderRefusal (now (bytes .entry)) ⌝ }
+{
+    if bytes.len() < 2 {
+        return Refusal {
+            number: 1,
+            place: 0,
+        };
+    }
+    if header.version != 1 {
+        return Refusal {
+            number: 2,
+            place: 0,
+        };
+    }
+    if header.edges > 256 {
+        return Refusal {
+            number: 3,
+            place: 0,
+        };
+    }
+    Refusal {
+        number: 0,
+        place: 0,
+    }
+}
+
+// Length 1 or 4, where the counts need so many bits.
+fn length_refusal(bytes: &[u8], used: usize) -> Refusal
+    requires { ⌜ used ≤ 65536 ⌝ }
+    ensures { λ r. ⌜ r ≡ lengthRefusal (now (bytes .entry)) used ⌝ }
+{
+    let needed = (used + 7) >> 3;
+    if bytes.len() < needed {
+        return Refusal {
+            number: 1,
+            place: 0,
+        };
+    }
+    if bytes.len() > needed {
+        return Refusal {
+            number: 4,
+            place: 0,
+        };
+    }
+    Refusal {
+        number: 0,
+        place: 0,
+    }
+}
+
+// Filling 4, of a file that has the length that its counts need.
+fn filling_refusal(bytes: &[u8], used: usize) -> Refusal
+    requires { ⌜ used ≤ 65536 ⌝ }
+    requires { ⌜ length (now bytes) ≡ bytesFor used ⌝ }
+    ensures { λ r. ⌜ r ≡ fillingRefusal (now (bytes .entry)) used ⌝ }
+{
+    let left = 8 * bytes.len() - used;
+    if bits::field_at(bytes, used, left) != 0 {
+        return Refusal {
+            number: 4,
+            place: 0,
+        };
+    }
+    Refusal {
+        number: 0,
+        place: 0,
+    }
+}
+
+// The two zero bits of a proposal, 4.
+fn zeros_refusal(header: ProposalHeader) -> Refusal
+    ensures { λ r. ⌜ ((s : List ℕ) → header ≡ proposalHeader s → r ≡ zerosRefusal s) ⌝ }
+{
+    if header.zeros != 0 {
+        return Refusal {
+            number: 4,
+            place: 0,
+        };
+    }
+    Refusal {
+        number: 0,
+        place: 0,
+    }
+}
+
+// Header 6: latency input and output.
+fn header_ends_refusal(header: GraphHeader) -> Refusal
+    ensures { λ r. ⌜ ((s : List ℕ) → header ≡ graphHeader s → r ≡ headerEndsRefusal s) ⌝ }
+{
+    if header.input >= header.tasks || header.output >= header.tasks {
+        return Refusal {
+            number: 6,
+            place: 0,
+        };
+    }
+    Refusal {
+        number: 0,
+        place: 0,
+    }
+}
+
+// All that is judged of a graph file before its tasks and edges.
+pub fn graph_frame_refusal(bytes: &[u8], header: GraphHeader) -> Refusal
+    requires { ⌜ header ≡ graphHeader (now bytes) ⌝ }
+    ensures { λ r. ⌜ r ≡ graphFrameRefusal (now (bytes .entry)) ⌝ }
+{
+    let counts = graph_header_refusal(bytes, header);
+    if counts.number != 0 {
+        return counts;
+    }
+    let used = 56 + 20 * (header.tasks as usize + header.edges as usize);
+    let length = length_refusal(bytes, used);
+    if length.number != 0 {
+        return length;
+    }
+    let filling = filling_refusal(bytes, used);
+    if filling.number != 0 {
+        return filling;
+    }
+    header_ends_refusal(header)
+}
+
+// All that is judged of a proposal file before its edges.
+pub fn proposal_frame_refusal(bytes: &[u8], header: ProposalHeader) -> Refusal
+    requires { ⌜ header ≡ proposalHeader (now bytes) ⌝ }
+    ensures { λ r. ⌜ r ≡ proposalFrameRefusal (now (bytes .entry)) ⌝ }
+{
+    let counts = proposal_header_refusal(bytes, header);
+    if counts.number != 0 {
+        return counts;
+    }
+    let used = 16 + 20 * header.edges as usize;
+    let length = length_refusal(bytes, used);
+    if length.number != 0 {
+        return length;
+    }
+    let zeros = zeros_refusal(header);
+    if zeros.number != 0 {
+        return zeros;
+    }
+    filling_refusal(bytes, used)
+}

@@ -1,0 +1,91 @@
+// Reading a proposal file.
+ghost use mathlib.Core.Path.{_≡_};
+ghost use mathlib.Core.List.{List};
+ghost use Prim.Native.Nat.{ℕ, _≤_};
+ghost use lib.ListN.{length};
+ghost use Rattle.model.specs.Tasks.{Edge};
+ghost use Rattle.layout.specs.Layout.{proposalHeader};
+ghost use Rattle.files.specs.Files.{proposalOf, proposedEdgesRefusal};
+ghost use Rattle.files.specs.Working.{SourcesOf, SinksOf, DelaysOf, zeros, workingProposal, refusedProposal, proposalReading};
+use crate::ProposalReading;
+use crate::Refusal;
+use crate::checks::ends_refusal;
+use crate::checks::repeats_refusal;
+use crate::headers::proposal_frame_refusal;
+use crate::records::edges_into;
+use layout::ProposalHeader;
+
+// What is read of a refused file: the refusal, and 0 elsewhere.
+fn refused_proposal(refusal: Refusal) -> ProposalReading
+    ensures { λ r. ⌜ r ≡ refusedProposal refusal ⌝ }
+{
+    ProposalReading {
+        refusal,
+        edges: 0,
+        source: [0; 256],
+        sink: [0; 256],
+        delay: [0; 256],
+    }
+}
+
+// Each edge 6; then 8.
+fn proposed_refusal<'a>(tasks: usize, source: &'a [u8], sink: &'a [u8], delay: &'a [u8]) -> Refusal
+    requires { ⌜ length (now source) ≤ 256 ⌝ }
+    requires { ⌜ length (now sink) ≡ length (now source) ⌝ }
+    requires { ⌜ length (now delay) ≡ length (now source) ⌝ }
+    ensures { λ r. ⌜ ((es : List Edge) → SourcesOf es (now (source .entry)) → SinksOf es (now (sink .entry)) → DelaysOf es (now (delay .entry)) → r ≡ proposedEdgesRefusal tasks es) ⌝ }
+{
+    let ends = ends_refusal(tasks, source, sink);
+    if ends.number != 0 {
+        return ends;
+    }
+    repeats_refusal(source, sink, delay)
+}
+
+// The edges of a file whose header passed, into lists of zeros, and what is judged of them.
+fn proposal_records<'a>(
+    bytes: &[u8],
+    header: ProposalHeader,
+    tasks: usize,
+    source: &'a mut [u8],
+    sink: &'a mut [u8],
+    delay: &'a mut [u8],
+) -> Refusal
+    requires { ⌜ header ≡ proposalHeader (now bytes) ⌝ }
+    requires { ⌜ header .edges ≤ 256 ⌝ }
+    requires { ⌜ (now source ≡ zeros 256) × (now sink ≡ zeros 256) × (now delay ≡ zeros 256) ⌝ }
+    ensures refusal { λ r. ⌜ r ≡ proposedEdgesRefusal tasks (proposalOf (now (bytes .entry))) ⌝ }
+    ensures source { λ _. ⌜ now (source .exit) ≡ workingProposal (proposalOf (now (bytes .entry))) .source ⌝ }
+    ensures sink { λ _. ⌜ now (sink .exit) ≡ workingProposal (proposalOf (now (bytes .entry))) .sink ⌝ }
+    ensures delay { λ _. ⌜ now (delay .exit) ≡ workingProposal (proposalOf (now (bytes .entry))) .delay ⌝ }
+{
+    let edges = header.edges as usize;
+    edges_into(bytes, 16, 0, edges, source, sink, delay);
+    proposed_refusal(tasks, &source[0..edges], &sink[0..edges], &delay[0..edges])
+}
+
+// The edges that a file proposes beside a graph of so many tasks, or the refusal of 1 to 8 that it gets: for every list of bytes
+// and every number of tasks.
+pub fn read_proposal(bytes: &[u8], tasks: usize) -> ProposalReading
+    ensures { λ r. ⌜ r ≡ proposalReading tasks (now (bytes .entry)) ⌝ }
+{
+    let header = layout::proposal_header(bytes);
+    let frame = proposal_frame_refusal(bytes, header);
+    if frame.number != 0 {
+        return refused_proposal(frame);
+    }
+    let mut source = [0u8; 256];
+    let mut sink = [0u8; 256];
+    let mut delay = [0u8; 256];
+    let refusal = proposal_records(bytes, header, tasks, &mut source, &mut sink, &mut delay);
+    if refusal.number != 0 {
+        return refused_proposal(refusal);
+    }
+    ProposalReading {
+        refusal,
+        edges: header.edges,
+        source,
+        sink,
+        delay,
+    }
+}
