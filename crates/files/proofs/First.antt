@@ -10,7 +10,7 @@ use native.Mathlib.Omega.{arith}
 use Rattle.model.specs.Lists.{tabulate}
 use Rattle.model.proofs.Basics.{below-suc}
 use Rattle.model.proofs.Tests.{decided, eqb-decides}
-use Rattle.files.proofs.Fill.{tabulate-same}
+use Rattle.records.proofs.Fill.{tabulate-same}
 use Rattle.files.specs.declared.Refusal.{Refusal}
 use Rattle.files.specs.Refusals.{notRefused, refuse, choose, first}
 use Rattle.files.specs.Files.{firstOf}

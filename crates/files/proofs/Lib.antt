@@ -1,5 +1,3 @@
-pub mod Fill
-pub mod Parts
 pub mod Whole
 pub mod First
 pub mod Single

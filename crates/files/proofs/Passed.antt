@@ -1,19 +1,17 @@
 -- What is known of a file of which nothing is refused: every check passed, so no condition of a refusal holds.
-use mathlib.Core.Path.{_≡_, refl, sym, ap, _∙_, subst}
+use mathlib.Core.Path.{_≡_, refl, sym, _∙_}
 use mathlib.Core.Logic.{_⊎_, inl, inr, _≢_}
 use mathlib.Core.Bool.{Bool, true, false, not, _||_, true≢false}
-use mathlib.Core.List.{List, [], _∷_}
-use Prim.Native.Nat.{ℕ, zero, suc, _+_, _≤_, _<_}
+use mathlib.Core.List.{List, _∷_}
+use Prim.Native.Nat.{ℕ, zero, _≤_, _<_}
 use native.Mathlib.Omega.{arith}
 use lib.Dec.{eqb, ltb}
 use lib.ListN.{length}
 use borrow.Author.Tests.{ltb-true, ltb-false, eqb-true, not-false}
-use Rattle.model.specs.Lists.{tabulate}
-use Rattle.model.proofs.Basics.{order}
 use Rattle.layout.specs.Layout.{graphHeader, proposalHeader, bytesFor, filling}
 use Rattle.files.specs.declared.Refusal.{Refusal}
-use Rattle.files.specs.Refusals.{notRefused, refuse, first}
-use Rattle.files.specs.Files.{taskCount, edgeCount, graphBits, proposalBits, firstOf, graphHeaderRefusal, proposalHeaderRefusal, lengthRefusal, fillingRefusal, zerosRefusal, headerEndsRefusal, graphFrameRefusal, proposalFrameRefusal}
+use Rattle.files.specs.Refusals.{refuse, first}
+use Rattle.files.specs.Files.{taskCount, edgeCount, graphBits, proposalBits, graphHeaderRefusal, proposalHeaderRefusal, lengthRefusal, fillingRefusal, zerosRefusal, headerEndsRefusal, graphFrameRefusal, proposalFrameRefusal}
 use Rattle.files.proofs.First.{passes, stops, number-same, refused, zero-or-not}
 use Rattle.files.proofs.Frame.{length-exact}
 

@@ -8,14 +8,14 @@ use native.Mathlib.Numerals.{add-one}
 use native.Mathlib.Omega.{arith}
 use lib.Dec.{T}
 use lib.ListN.{length, getD}
-use Rattle.model.specs.Tasks.{Edge, noEdge}
+use Rattle.model.specs.Tasks.{Edge}
 use Rattle.model.specs.Compute.{sameEdge}
 use Rattle.model.proofs.Basics.{any-in, any-out}
 use Rattle.model.proofs.Walks.{edge-equal}
 use Rattle.model.proofs.Tests.{same-edge, decides-true}
 use Rattle.files.specs.Refusals.{notRefused}
 use Rattle.files.specs.Files.{edgeIn, repeatsEarlier, repeatRefusal}
-use Rattle.files.specs.Working.{SourcesOf, SinksOf, DelaysOf}
+use Rattle.records.specs.Columns.{SourcesOf, SinksOf, DelaysOf}
 use Rattle.files.proofs.First.{refused, not-refused}
 use Rattle.files.proofs.Single.{refusal}
 

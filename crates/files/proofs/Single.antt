@@ -6,15 +6,15 @@ use mathlib.Core.List.{List, [], _∷_}
 use Prim.Native.Nat.{ℕ, suc, _+_, _≤_, _<_}
 use native.Mathlib.Numerals.{add-one}
 use native.Mathlib.Omega.{arith}
-use lib.Dec.{eqb, ltb}
+use lib.Dec.{ltb}
 use lib.ListN.{length, getD}
 use borrow.Author.Tests.{lt-ltb, le-ltb, eq-eqb, ne-eqb}
-use Rattle.model.specs.Tasks.{Task, Edge, noTask, noEdge, processorOf}
+use Rattle.model.specs.Tasks.{Task, Edge, processorOf}
 use Rattle.model.specs.Graph.{Graph, timeOf}
 use Rattle.files.specs.declared.Refusal.{Refusal}
-use Rattle.files.specs.Refusals.{notRefused, refuse, first}
+use Rattle.files.specs.Refusals.{notRefused, refuse}
 use Rattle.files.specs.Files.{edgeIn, endOutside, withinProcessor, timeRefusal, endsRefusal, edgeRefusal}
-use Rattle.files.specs.Working.{ProcessorsOf, TimesOf, SourcesOf, SinksOf}
+use Rattle.records.specs.Columns.{ProcessorsOf, TimesOf, SourcesOf, SinksOf}
 use Rattle.files.proofs.First.{refused, not-refused, passes, stops, number-same, check-passes, check-stops, no-checks}
 
 abbrev pub refusal : ℕ → ℕ → Refusal

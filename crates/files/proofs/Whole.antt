@@ -6,16 +6,16 @@ use lib.ListN.{length, getD, length-append, List·getD-append, List·getD-eq-def
 use lib.Seq.{getD-append-add}
 use native.Mathlib.Omega.{arith}
 use Rattle.model.specs.Lists.{tabulate}
-use Rattle.model.specs.Tasks.{Task, Edge, noTask, noEdge, processorOf}
+use Rattle.model.specs.Tasks.{Task, Edge, noTask, noEdge}
 use Rattle.model.specs.Processors.{processorEdge, processorEdges}
-use Rattle.model.specs.Graph.{Graph, timeOf, edges}
+use Rattle.model.specs.Graph.{Graph, edges}
 use Rattle.layout.specs.Layout.{graphHeader, proposalHeader, graphHeaderBits, proposalHeaderBits, recordStart, taskAt, edgeAt}
 use Rattle.layout.specs.declared.GraphHeader.{GraphHeader}
 use Rattle.files.specs.Files.{taskCount, edgeCount, edgesFrom, graphOf, proposalOf, edgeIn}
 use borrow.Rule.Slice.PartMut.{midOf}
-use Rattle.files.specs.Working.{zeros, withPart, Column}
-use Rattle.files.proofs.Fill.{length-tabulate, getD-tabulate}
-use Rattle.files.proofs.Parts.{one-part, two-parts, column-of-part}
+use Rattle.records.specs.Columns.{zeros, withPart, Column}
+use Rattle.records.proofs.Fill.{length-tabulate, getD-tabulate}
+use Rattle.records.proofs.Parts.{one-part, two-parts, column-of-part}
 
 -- ── Edges of a file ──
 

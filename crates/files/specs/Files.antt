@@ -3,14 +3,14 @@
 -- length 1 or 4; its two zero bits and filling 4; each edge 6; then 8".
 use mathlib.Core.Bool.{Bool, not, _||_}
 use mathlib.Core.List.{List, [], _∷_}
-use Prim.Native.Nat.{ℕ, suc, _+_, _*_}
+use Prim.Native.Nat.{ℕ, suc, _+_}
 use lib.Dec.{eqb, ltb}
 use lib.ListN.{length, getD}
 use Rattle.model.specs.Lists.{tabulate, anyBelow}
 use Rattle.model.specs.Tasks.{Task, Edge, noEdge, processorOf}
 use Rattle.model.specs.Graph.{Graph, timeOf}
 use Rattle.model.specs.Compute.{sameEdge}
-use Rattle.layout.specs.Layout.{graphHeader, proposalHeader, graphHeaderBits, proposalHeaderBits, recordBits, recordStart, taskAt, edgeAt, bytesFor, filling}
+use Rattle.layout.specs.Layout.{graphHeader, proposalHeader, graphHeaderBits, proposalHeaderBits, recordStart, taskAt, edgeAt, bytesFor, filling}
 use Rattle.files.specs.declared.Refusal.{Refusal}
 use Rattle.files.specs.Refusals.{refuse, first}
 

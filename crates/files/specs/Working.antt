@@ -1,21 +1,17 @@
 -- The working form of what a file holds: lists of a fixed length, 0 past the end. Of a graph, the edges that order it stand in one list, processor
 -- edges first (entry v is the one out of task v), then those of the file. Of a refused file, number and place, and 0 elsewhere.
-use mathlib.Core.List.{List, _++_}
-use mathlib.Core.Path.{_≡_}
-use Prim.Native.Nat.{ℕ, zero, suc, _-_, _<_}
-use lib.ListN.{length, getD, take, drop, replicate}
+use mathlib.Core.List.{List}
+use Prim.Native.Nat.{ℕ, zero, suc}
+use lib.ListN.{length}
 use Rattle.model.specs.Lists.{tabulate}
-use Rattle.model.specs.Tasks.{Task, Edge, noTask, noEdge, processorOf}
+use Rattle.model.specs.Tasks.{Edge, processorOf}
 use Rattle.model.specs.Graph.{Graph, timeOf, edges}
-use Rattle.layout.specs.declared.EdgeRecord.{EdgeRecord}
+use Rattle.records.specs.Columns.{zeros}
 use Rattle.files.specs.declared.Refusal.{Refusal}
 use Rattle.files.specs.declared.GraphReading.{GraphReading}
 use Rattle.files.specs.declared.ProposalReading.{ProposalReading}
 use Rattle.files.specs.Refusals.{notRefused}
 use Rattle.files.specs.Files.{edgeIn, graphOf, graphRefusal, proposalOf, proposalRefusal}
-
-unfoldable pub zeros : ℕ → List ℕ
-zeros n = replicate n 0
 
 unfoldable pub workingGraph : Graph → GraphReading
 workingGraph g = record {
@@ -78,31 +74,3 @@ proposalAnswer r es = ifPassed (r .number) (workingProposal es) (refusedProposal
 -- what reading a proposal file gives, beside a graph of n tasks
 unfoldable pub proposalReading : ℕ → List ℕ → ProposalReading
 proposalReading n s = proposalAnswer (proposalRefusal n s) (proposalOf s)
-
--- A list of numbers holds one number of each of a list's elements, in their sequence.
-pub record Column {A : Type 0} (missing : A) (part : A → ℕ) (rows : List A) (column : List ℕ) : Type 0 where
-  pub as-many : length column ≡ length rows
-  pub same : (i : ℕ) → i < length rows → getD column i 0 ≡ part (getD rows i missing)
-
-abbrev pub ProcessorsOf : List Task → List ℕ → Type 0
-ProcessorsOf ts column = Column noTask (λ t. t .processor) ts column
-
-abbrev pub TimesOf : List Task → List ℕ → Type 0
-TimesOf ts column = Column noTask (λ t. t .time) ts column
-
-abbrev pub SourcesOf : List Edge → List ℕ → Type 0
-SourcesOf es column = Column noEdge (λ e. e .source) es column
-
-abbrev pub SinksOf : List Edge → List ℕ → Type 0
-SinksOf es column = Column noEdge (λ e. e .sink) es column
-
-abbrev pub DelaysOf : List Edge → List ℕ → Type 0
-DelaysOf es column = Column noEdge (λ e. e .delay) es column
-
--- an edge record as an edge
-unfoldable pub edgeOf : EdgeRecord → Edge
-edgeOf r = record { source = r .source; sink = r .sink; delay = r .delay }
-
--- the list with f 0, f 1, .. in the places from a start to an end
-unfoldable pub withPart : ℕ → ℕ → (ℕ → ℕ) → List ℕ → List ℕ
-withPart start end f xs = take start xs ++ (tabulate (end - start) f ++ drop end xs)

@@ -1,13 +1,13 @@
 // The checks of tasks and edges: each gives the first refusal over a list, in the file's sequence. The contracts speak of the tasks
 // and edges whose numbers the lists hold.
 ghost use mathlib.Core.Path.{_≡_};
-ghost use mathlib.Core.List.{List, [], _∷_};
-ghost use Prim.Native.Nat.{ℕ, suc, _+_, _≤_, _<_, _^_};
-ghost use lib.ListN.{length, getD};
-ghost use Rattle.model.specs.Tasks.{Task, Edge, noEdge};
+ghost use mathlib.Core.List.{List};
+ghost use Prim.Native.Nat.{_+_, _≤_, _<_};
+ghost use lib.ListN.{length};
+ghost use Rattle.model.specs.Tasks.{Task, Edge};
 ghost use Rattle.model.specs.Graph.{Graph};
 ghost use Rattle.files.specs.Files.{firstOf, timeRefusal, endsRefusal, edgeRefusal, repeatRefusal, repeatsEarlier};
-ghost use Rattle.files.specs.Working.{ProcessorsOf, TimesOf, SourcesOf, SinksOf, DelaysOf};
+ghost use Rattle.records.specs.Columns.{ProcessorsOf, TimesOf, SourcesOf, SinksOf, DelaysOf};
 use crate::Refusal;
 
 // 5: the first task whose time is 0.

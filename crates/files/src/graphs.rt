@@ -1,22 +1,22 @@
 // Reading a graph file.
 ghost use mathlib.Core.Path.{_≡_};
-ghost use mathlib.Core.List.{List};
-ghost use Prim.Native.Nat.{ℕ, _≤_};
+ghost use Prim.Native.Nat.{_≤_};
 ghost use lib.ListN.{length};
 ghost use Rattle.model.specs.Graph.{Graph};
 ghost use Rattle.layout.specs.Layout.{graphHeader};
 ghost use Rattle.files.specs.Files.{graphOf, graphRecordsRefusal};
-ghost use Rattle.files.specs.Working.{ProcessorsOf, TimesOf, SourcesOf, SinksOf, DelaysOf, zeros, workingGraph, refusedGraph, graphReading};
+ghost use Rattle.records.specs.Columns.{ProcessorsOf, TimesOf, SourcesOf, SinksOf, DelaysOf, zeros};
+ghost use Rattle.files.specs.Working.{workingGraph, refusedGraph, graphReading};
 use crate::GraphReading;
 use crate::Refusal;
 use crate::checks::edges_refusal;
 use crate::checks::repeats_refusal;
 use crate::checks::times_refusal;
 use crate::headers::graph_frame_refusal;
-use crate::records::edges_into;
-use crate::records::processor_edges_into;
-use crate::records::tasks_into;
 use layout::GraphHeader;
+use records::edges_into;
+use records::processor_edges_into;
+use records::tasks_into;
 
 // What is read of a refused file: the refusal, and 0 elsewhere.
 fn refused_graph(refusal: Refusal) -> GraphReading

@@ -3,7 +3,6 @@ mod checks;
 mod graphs;
 mod headers;
 mod proposals;
-mod records;
 
 pub use graphs::read_graph;
 pub use proposals::read_proposal;

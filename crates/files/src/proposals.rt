@@ -1,19 +1,20 @@
 // Reading a proposal file.
 ghost use mathlib.Core.Path.{_≡_};
 ghost use mathlib.Core.List.{List};
-ghost use Prim.Native.Nat.{ℕ, _≤_};
+ghost use Prim.Native.Nat.{_≤_};
 ghost use lib.ListN.{length};
 ghost use Rattle.model.specs.Tasks.{Edge};
 ghost use Rattle.layout.specs.Layout.{proposalHeader};
 ghost use Rattle.files.specs.Files.{proposalOf, proposedEdgesRefusal};
-ghost use Rattle.files.specs.Working.{SourcesOf, SinksOf, DelaysOf, zeros, workingProposal, refusedProposal, proposalReading};
+ghost use Rattle.records.specs.Columns.{SourcesOf, SinksOf, DelaysOf, zeros};
+ghost use Rattle.files.specs.Working.{workingProposal, refusedProposal, proposalReading};
 use crate::ProposalReading;
 use crate::Refusal;
 use crate::checks::ends_refusal;
 use crate::checks::repeats_refusal;
 use crate::headers::proposal_frame_refusal;
-use crate::records::edges_into;
 use layout::ProposalHeader;
+use records::edges_into;
 
 // What is read of a refused file: the refusal, and 0 elsewhere.
 fn refused_proposal(refusal: Refusal) -> ProposalReading

@@ -1,8 +1,8 @@
 -- `files::checks::edges_refusal` meets its contract: the checks of all edges that were passed pass.
-use mathlib.Core.Path.{_≡_, sym, subst, _∙_}
+use mathlib.Core.Path.{_≡_, sym, subst}
 use mathlib.Core.Logic.{⊎-elim}
 use mathlib.Core.List.{List}
-use Prim.Native.Nat.{ℕ, _+_, _-_, _≤_, _<_}
+use Prim.Native.Nat.{ℕ, _-_, _≤_, _<_}
 use native.Mathlib.Omega.{arith}
 use lib.ListN.{length, getD}
 use borrow.Author.Count.{below-none, below-more}
@@ -10,7 +10,7 @@ use borrow.Author.Tests.{leb-true, leb-false}
 use Rattle.model.specs.Tasks.{Task, Edge}
 use Rattle.files.specs.Refusals.{notRefused}
 use Rattle.files.specs.Files.{edgeRefusal}
-use Rattle.files.specs.Working.{ProcessorsOf, SourcesOf, SinksOf}
+use Rattle.records.specs.Columns.{ProcessorsOf, SourcesOf, SinksOf}
 use Rattle.files.proofs.First.{stops-at, stops-nowhere}
 use Rattle.files.proofs.Single.{source-stops, sink-stops, outside-stops, within-stops, between-passes}
 use Rattle.files.proofs.checks.edges_refusal.Statement.{statement}

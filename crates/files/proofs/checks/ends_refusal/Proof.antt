@@ -1,8 +1,8 @@
 -- `files::checks::ends_refusal` meets its contract: the checks of all edges that were passed pass.
-use mathlib.Core.Path.{_≡_, sym, subst, _∙_}
+use mathlib.Core.Path.{_≡_, sym, subst}
 use mathlib.Core.Logic.{⊎-elim}
 use mathlib.Core.List.{List}
-use Prim.Native.Nat.{ℕ, _+_, _-_, _≤_, _<_}
+use Prim.Native.Nat.{ℕ, _-_, _≤_, _<_}
 use native.Mathlib.Omega.{arith}
 use lib.ListN.{length}
 use borrow.Author.Count.{below-none, below-more}
@@ -10,7 +10,7 @@ use borrow.Author.Tests.{leb-true, leb-false}
 use Rattle.model.specs.Tasks.{Edge}
 use Rattle.files.specs.Refusals.{notRefused}
 use Rattle.files.specs.Files.{endsRefusal}
-use Rattle.files.specs.Working.{SourcesOf, SinksOf}
+use Rattle.records.specs.Columns.{SourcesOf, SinksOf}
 use Rattle.files.proofs.First.{stops-at, stops-nowhere}
 use Rattle.files.proofs.Single.{ends-pass, source-stops, sink-stops}
 use Rattle.files.proofs.checks.ends_refusal.Statement.{statement}

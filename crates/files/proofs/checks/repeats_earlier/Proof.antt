@@ -1,13 +1,13 @@
 -- `files::checks::repeats_earlier` meets its contract: none of the edges that were passed equals edge j.
-use mathlib.Core.Path.{_≡_, sym}
+use mathlib.Core.Path.{sym}
 use mathlib.Core.Logic.{_≢_, ⊎-elim}
 use mathlib.Core.List.{List}
-use Prim.Native.Nat.{ℕ, _+_, _-_, _≤_, _<_}
+use Prim.Native.Nat.{ℕ, _-_, _≤_, _<_}
 use native.Mathlib.Omega.{arith}
 use borrow.Author.Count.{below-none, below-more}
 use Rattle.model.specs.Tasks.{Edge}
 use Rattle.files.specs.Files.{edgeIn}
-use Rattle.files.specs.Working.{SourcesOf, SinksOf, DelaysOf}
+use Rattle.records.specs.Columns.{SourcesOf, SinksOf, DelaysOf}
 use Rattle.files.proofs.Repeats.{repeats, repeats-none, equal, other-source, other-sink, other-delay}
 use Rattle.files.proofs.checks.repeats_earlier.Statement.{statement}
 use Rattle.files.proofs.checks.repeats_earlier.Tie as tie

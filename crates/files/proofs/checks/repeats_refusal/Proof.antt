@@ -1,14 +1,14 @@
 -- `files::checks::repeats_refusal` meets its contract: none of the edges that were passed repeats an earlier one.
 use mathlib.Core.Path.{_≡_, sym, subst, _∙_}
 use mathlib.Core.List.{List}
-use Prim.Native.Nat.{ℕ, _+_, _-_, _≤_, _<_}
+use Prim.Native.Nat.{ℕ, _-_, _≤_, _<_}
 use native.Mathlib.Omega.{arith}
 use lib.ListN.{length}
 use borrow.Author.Count.{below-none, below-more}
 use Rattle.model.specs.Tasks.{Edge}
 use Rattle.files.specs.Refusals.{notRefused}
 use Rattle.files.specs.Files.{repeatRefusal}
-use Rattle.files.specs.Working.{SourcesOf, SinksOf, DelaysOf}
+use Rattle.records.specs.Columns.{SourcesOf, SinksOf, DelaysOf}
 use Rattle.files.proofs.First.{stops-at, stops-nowhere}
 use Rattle.files.proofs.Repeats.{repeat-stops, repeat-passes}
 use Rattle.files.proofs.checks.repeats_refusal.Statement.{statement}

@@ -1,13 +1,13 @@
 -- `files::checks::times_refusal` meets its contract: the checks of all tasks that were passed pass.
-use mathlib.Core.Path.{_≡_, refl, sym, subst, _∙_}
-use Prim.Native.Nat.{ℕ, _+_, _-_, _≤_, _<_}
+use mathlib.Core.Path.{_≡_, sym, subst}
+use Prim.Native.Nat.{ℕ, _-_, _≤_, _<_}
 use native.Mathlib.Omega.{arith}
 use lib.ListN.{length}
 use borrow.Author.Count.{below-none, below-more}
 use Rattle.model.specs.Graph.{Graph}
 use Rattle.files.specs.Refusals.{notRefused}
 use Rattle.files.specs.Files.{timeRefusal}
-use Rattle.files.specs.Working.{TimesOf}
+use Rattle.records.specs.Columns.{TimesOf}
 use Rattle.files.proofs.First.{stops-at, stops-nowhere}
 use Rattle.files.proofs.Single.{time-passes, time-stops}
 use Rattle.files.proofs.checks.times_refusal.Statement.{statement}

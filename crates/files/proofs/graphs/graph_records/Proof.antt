@@ -8,9 +8,10 @@ use Rattle.model.specs.Lists.{tabulate}
 use Rattle.model.specs.Tasks.{noTask, processorOf}
 use Rattle.model.specs.Graph.{timeOf}
 use Rattle.files.specs.Files.{graphOf}
-use Rattle.files.specs.Working.{zeros, withPart, workingGraph}
-use Rattle.files.proofs.Fill.{length-tabulate}
-use Rattle.files.proofs.Parts.{part-length, zeros-length, zeros-room, within-list, column-of-front, column-of-take}
+use Rattle.records.specs.Columns.{zeros, withPart}
+use Rattle.files.specs.Working.{workingGraph}
+use Rattle.records.proofs.Fill.{length-tabulate}
+use Rattle.records.proofs.Parts.{part-length, zeros-length, zeros-room, within-list, column-of-front, column-of-take}
 use Rattle.files.proofs.Whole.{header-tasks, header-edges, task-list, edge-list, sync-column}
 use borrow.Author.Needs.{needs}
 use Rattle.files.proofs.graphs.graph_records.Statement.{statement}

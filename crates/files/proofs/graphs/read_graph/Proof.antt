@@ -4,7 +4,8 @@ use Prim.Native.Nat.{_≤_}
 use Rattle.layout.specs.declared.GraphHeader.{GraphHeader}
 use Rattle.files.specs.Refusals.{notRefused}
 use Rattle.files.specs.Files.{graphOf}
-use Rattle.files.specs.Working.{zeros, workingGraph, graphReading}
+use Rattle.records.specs.Columns.{zeros}
+use Rattle.files.specs.Working.{workingGraph, graphReading}
 use Rattle.files.proofs.First.{number-same}
 use Rattle.files.proofs.Whole.{header-tasks, header-edges}
 use Rattle.files.proofs.Passed.{graph-frame-passed}

@@ -1,6 +1,7 @@
 -- `files::graphs::refused_graph` meets its contract: every array is filled with 0.
 use mathlib.Core.Path.{refl}
-use Rattle.files.specs.Working.{zeros, refusedGraph}
+use Rattle.records.specs.Columns.{zeros}
+use Rattle.files.specs.Working.{refusedGraph}
 use Rattle.files.proofs.graphs.refused_graph.Statement.{statement}
 use Rattle.files.proofs.graphs.refused_graph.Tie as tie
 

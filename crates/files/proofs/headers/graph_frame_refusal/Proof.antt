@@ -1,8 +1,7 @@
 -- `files::headers::graph_frame_refusal` meets its contract: a check that refuses ends the chain, one that passes is left out of it.
-use mathlib.Core.Path.{_≡_, sym, ap, _∙_, subst}
+use mathlib.Core.Path.{sym, ap, _∙_, subst}
 use Prim.Native.Nat.{ℕ, _≤_}
 use native.Mathlib.Omega.{arith}
-use lib.ListN.{length}
 use Rattle.layout.specs.Layout.{graphHeader}
 use Rattle.files.specs.Files.{lengthRefusal, fillingRefusal, headerEndsRefusal, graphFrameRefusal}
 use Rattle.files.proofs.First.{ends-with, goes-on, one-check, number-same}

@@ -6,7 +6,7 @@ use Rattle.model.specs.Tasks.{noEdge}
 use Rattle.layout.specs.declared.ProposalHeader.{ProposalHeader}
 use Rattle.files.specs.Files.{proposalOf, edgeIn}
 use Rattle.files.specs.Working.{workingProposal}
-use Rattle.files.proofs.Parts.{zeros-room, within-list, column-of-front}
+use Rattle.records.proofs.Parts.{zeros-room, within-list, column-of-front}
 use Rattle.files.proofs.Whole.{proposal-list, proposal-count}
 use borrow.Author.Needs.{needs}
 use Rattle.files.proofs.proposals.proposal_records.Statement.{statement}

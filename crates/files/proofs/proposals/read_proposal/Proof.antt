@@ -5,7 +5,8 @@ use lib.ListN.{length}
 use Rattle.layout.specs.declared.ProposalHeader.{ProposalHeader}
 use Rattle.files.specs.Refusals.{notRefused}
 use Rattle.files.specs.Files.{proposalOf}
-use Rattle.files.specs.Working.{zeros, workingProposal, proposalReading}
+use Rattle.records.specs.Columns.{zeros}
+use Rattle.files.specs.Working.{workingProposal, proposalReading}
 use Rattle.files.proofs.First.{number-same}
 use Rattle.files.proofs.Whole.{proposal-count}
 use Rattle.files.proofs.Passed.{proposal-frame-passed}

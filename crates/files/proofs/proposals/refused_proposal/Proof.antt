@@ -1,6 +1,7 @@
 -- `files::proposals::refused_proposal` meets its contract: every array is filled with 0.
 use mathlib.Core.Path.{refl}
-use Rattle.files.specs.Working.{zeros, refusedProposal}
+use Rattle.records.specs.Columns.{zeros}
+use Rattle.files.specs.Working.{refusedProposal}
 use Rattle.files.proofs.proposals.refused_proposal.Statement.{statement}
 use Rattle.files.proofs.proposals.refused_proposal.Tie as tie
 

@@ -1,15 +1,15 @@
--- `files::records::read_tasks` meets its contract: after v turns the first v elements of both lists are those of the first v tasks.
+-- `records::read_tasks` meets its contract: after v turns the first v elements of both lists are those of the first v tasks.
 use mathlib.Core.Path.{_≡_, refl, sym, ap, _∙_}
-use Prim.Native.Nat.{ℕ, _+_, _-_, _*_, _≤_, _<_}
+use Prim.Native.Nat.{ℕ, _-_, _≤_, _<_}
 use native.Mathlib.Omega.{arith}
 use borrow.Author.Needs.{needs}
 use lib.ListN.{length}
 use Rattle.layout.specs.Layout.{graphHeaderBits, recordStart, taskAt}
-use Rattle.files.proofs.Fill.{Filled, filled-none, filled-more, filled-all}
-use Rattle.files.proofs.records.read_tasks.Statement.{statement}
-use Rattle.files.proofs.records.read_tasks.Tie as tie
-use Rattle.files.proofs.records.read_tasks.Reads as reads
-use Rattle.files.proofs.records.read_tasks.Lts as lts
+use Rattle.records.proofs.Fill.{Filled, filled-none, filled-more, filled-all}
+use Rattle.records.proofs.read_tasks.Statement.{statement}
+use Rattle.records.proofs.read_tasks.Tie as tie
+use Rattle.records.proofs.read_tasks.Reads as reads
+use Rattle.records.proofs.read_tasks.Lts as lts
 
 abbrev Inv-loop : tie.InvT-loop
 Inv-loop bytes processor₀ time₀ at₀ v₀ processor time at v =

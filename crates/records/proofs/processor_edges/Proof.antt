@@ -1,5 +1,5 @@
--- `files::records::processor_edges` meets its contract: after v turns the first v elements of the three lists are those of the first v edges.
-use mathlib.Core.Path.{_≡_, refl, sym, ap, _∙_}
+-- `records::processor_edges` meets its contract: after v turns the first v elements of the three lists are those of the first v edges.
+use mathlib.Core.Path.{_≡_, sym, ap, _∙_}
 use mathlib.Core.List.{List}
 use Prim.Native.Nat.{ℕ, _+_, _-_, _≤_, _<_}
 use native.Mathlib.Omega.{arith}
@@ -7,10 +7,10 @@ use lib.ListN.{length, set, length-set}
 use Rattle.model.specs.Lists.{tabulate}
 use Rattle.model.specs.Tasks.{Task, Edge}
 use Rattle.model.specs.Processors.{processorEdge}
-use Rattle.files.specs.Working.{ProcessorsOf, edgeOf}
-use Rattle.files.proofs.Fill.{Filled, filled-none, filled-more, filled-all}
-use Rattle.files.proofs.records.processor_edges.Statement.{statement}
-use Rattle.files.proofs.records.processor_edges.Tie as tie
+use Rattle.records.specs.Columns.{ProcessorsOf, edgeOf}
+use Rattle.records.proofs.Fill.{Filled, filled-none, filled-more, filled-all}
+use Rattle.records.proofs.processor_edges.Statement.{statement}
+use Rattle.records.proofs.processor_edges.Tie as tie
 
 -- The list holds one number of each of the first v edges, whatever else the tasks are.
 abbrev Holds : (Edge → ℕ) → List ℕ → ℕ → List ℕ → Type 0

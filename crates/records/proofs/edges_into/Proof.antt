@@ -1,9 +1,9 @@
--- `files::records::edges_into` meets its contract: the three parts come back filled.
+-- `records::edges_into` meets its contract: the three parts come back filled.
 use borrow.Rule.Slice.PartMut.{mid-len}
-use Rattle.files.proofs.Parts.{put-part}
+use Rattle.records.proofs.Parts.{put-part}
 use borrow.Author.Needs.{needs}
-use Rattle.files.proofs.records.edges_into.Statement.{statement}
-use Rattle.files.proofs.records.edges_into.Tie as tie
+use Rattle.records.proofs.edges_into.Statement.{statement}
+use Rattle.records.proofs.edges_into.Tie as tie
 
 sub-read-edges : tie.Need-sub-read-edges
 sub-read-edges c = search needs

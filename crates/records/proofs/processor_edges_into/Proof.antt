@@ -1,4 +1,4 @@
--- `files::records::processor_edges_into` meets its contract: the three parts come back filled.
+-- `records::processor_edges_into` meets its contract: the three parts come back filled.
 use mathlib.Core.Path.{_≡_, sym, _∙_, subst}
 use mathlib.Core.List.{List}
 use Prim.Native.Nat.{ℕ, _-_}
@@ -7,11 +7,11 @@ use native.Mathlib.Omega.{arith}
 use lib.ListN.{length, take}
 use lib.Seq.{length-take-le}
 use Rattle.model.specs.Tasks.{Task}
-use Rattle.files.specs.Working.{ProcessorsOf}
-use Rattle.files.proofs.Parts.{put-part}
+use Rattle.records.specs.Columns.{ProcessorsOf}
+use Rattle.records.proofs.Parts.{put-part}
 use borrow.Author.Needs.{needs}
-use Rattle.files.proofs.records.processor_edges_into.Statement.{statement}
-use Rattle.files.proofs.records.processor_edges_into.Tie as tie
+use Rattle.records.proofs.processor_edges_into.Statement.{statement}
+use Rattle.records.proofs.processor_edges_into.Tie as tie
 
 sub-processor-edges : tie.Need-sub-processor-edges
 sub-processor-edges c = search needs

@@ -1,6 +1,6 @@
 -- A part of a list that comes back filled is a part of the whole that holds the new numbers; what stands at each place of such a list; and
 -- lists of zeros with one filled part at the front, or two.
-use mathlib.Core.Path.{_≡_, refl, sym, ap, _∙_, subst}
+use mathlib.Core.Path.{_≡_, sym, ap, _∙_, subst}
 use mathlib.Core.Logic.{_⊎_, inl, inr}
 use mathlib.Core.List.{List, _++_}
 use Prim.Native.Nat.{ℕ, _+_, _-_, _≤_, _<_}
@@ -11,8 +11,8 @@ use lib.Seq.{length-take-le, getD-take, getD-drop, getD-append-add, ext-getD}
 use borrow.Rule.Slice.PartMut.{midOf, postOf, putMid, mid-len, post-is}
 use Rattle.model.specs.Lists.{tabulate}
 use Rattle.model.proofs.Basics.{order}
-use Rattle.files.specs.Working.{zeros, withPart, Column}
-use Rattle.files.proofs.Fill.{length-tabulate, getD-tabulate}
+use Rattle.records.specs.Columns.{zeros, withPart, Column}
+use Rattle.records.proofs.Fill.{length-tabulate, getD-tabulate}
 
 pub put-part :
     (a e : ℕ) (f : ℕ → ℕ) (xs : List ℕ) {ys : List ℕ} {n : ℕ} → a ≤ e → n ≡ e - a → ys ≡ tabulate n f

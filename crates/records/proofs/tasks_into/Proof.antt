@@ -1,10 +1,10 @@
--- `files::records::tasks_into` meets its contract: both parts come back filled.
+-- `records::tasks_into` meets its contract: both parts come back filled.
 use native.Mathlib.Omega.{arith}
 use borrow.Rule.Slice.PartMut.{mid-len}
-use Rattle.files.proofs.Parts.{put-part}
+use Rattle.records.proofs.Parts.{put-part}
 use borrow.Author.Needs.{needs}
-use Rattle.files.proofs.records.tasks_into.Statement.{statement}
-use Rattle.files.proofs.records.tasks_into.Tie as tie
+use Rattle.records.proofs.tasks_into.Statement.{statement}
+use Rattle.records.proofs.tasks_into.Tie as tie
 
 sub-read-tasks : tie.Need-sub-read-tasks
 sub-read-tasks c = search needs

@@ -1,13 +1,13 @@
--- `files::records::read_edges` meets its contract: after j turns the first j elements of the three lists are those of the first j edges.
+-- `records::read_edges` meets its contract: after j turns the first j elements of the three lists are those of the first j edges.
 use mathlib.Core.Path.{_≡_, refl, sym, ap, _∙_}
-use Prim.Native.Nat.{ℕ, _+_, _-_, _*_, _≤_, _<_}
+use Prim.Native.Nat.{ℕ, _-_, _≤_, _<_}
 use native.Mathlib.Omega.{arith}
 use borrow.Author.Needs.{needs}
 use lib.ListN.{length}
 use Rattle.layout.specs.Layout.{recordStart, edgeAt}
-use Rattle.files.proofs.Fill.{Filled, filled-none, filled-more, filled-all}
-use Rattle.files.proofs.records.read_edges.Statement.{statement}
-use Rattle.files.proofs.records.read_edges.Tie as tie
+use Rattle.records.proofs.Fill.{Filled, filled-none, filled-more, filled-all}
+use Rattle.records.proofs.read_edges.Statement.{statement}
+use Rattle.records.proofs.read_edges.Tie as tie
 
 abbrev Inv-loop : tie.InvT-loop
 Inv-loop bytes position source₀ sink₀ delay₀ at₀ j₀ source sink delay at j =

@@ -1,12 +1,12 @@
--- `files::records::next_on` meets its contract: no task that was passed is on the processor.
+-- `records::next_on` meets its contract: no task that was passed is on the processor.
 use mathlib.Core.Path.{_≡_}
-use Prim.Native.Nat.{ℕ, _+_, _-_, _≤_, _<_}
+use Prim.Native.Nat.{ℕ, _-_, _≤_, _<_}
 use native.Mathlib.Omega.{arith}
 use borrow.Author.Needs.{needs}
 use lib.ListN.{length, getD}
-use Rattle.files.proofs.Fill.{from-more}
-use Rattle.files.proofs.records.next_on.Statement.{statement}
-use Rattle.files.proofs.records.next_on.Tie as tie
+use Rattle.records.proofs.Fill.{from-more}
+use Rattle.records.proofs.next_on.Statement.{statement}
+use Rattle.records.proofs.next_on.Tie as tie
 
 abbrev Inv-loop : tie.InvT-loop
 Inv-loop processor wanted from k₀ k =

@@ -1,13 +1,13 @@
-// Tasks and edges of a file, and processor edges, into lists of numbers.
+// Tasks and edges of a file, and processor edges, into lists of numbers: one list for each number of a task or of an edge.
 ghost use mathlib.Core.Path.{_≡_};
 ghost use mathlib.Core.List.{List};
-ghost use Prim.Native.Nat.{ℕ, _+_, _*_, _≤_, _<_, _^_};
+ghost use Prim.Native.Nat.{ℕ, _+_, _≤_, _<_};
 ghost use lib.ListN.{length, getD, take};
 ghost use Rattle.model.specs.Lists.{tabulate};
 ghost use Rattle.model.specs.Tasks.{Task};
 ghost use Rattle.model.specs.Processors.{processorEdge};
 ghost use Rattle.layout.specs.Layout.{graphHeaderBits, recordStart, taskAt, edgeAt};
-ghost use Rattle.files.specs.Working.{withPart, ProcessorsOf, edgeOf};
+ghost use Rattle.records.specs.Columns.{withPart, ProcessorsOf, edgeOf};
 use layout::EdgeRecord;
 
 // The tasks of a graph file, as many as the lists have room for.

@@ -1,19 +1,18 @@
--- `files::records::processor_edge` meets its contract: what is found is the next task on the processor, or the task is the last one there and
+-- `records::processor_edge` meets its contract: what is found is the next task on the processor, or the task is the last one there and
 -- the first one is found; so the record is a processor edge, and only one leaves a task.
 use mathlib.Core.Path.{_≡_, refl, sym, _∙_}
 use mathlib.Core.List.{List}
 use mathlib.Core.Logic.{_⊎_, inl, inr, _≢_}
-use Prim.Native.Nat.{ℕ, suc, _+_, _≤_, _<_}
+use Prim.Native.Nat.{ℕ, _+_, _≤_, _<_}
 use native.Mathlib.Omega.{arith}
 use lib.ListN.{length, getD}
 use borrow.Author.Needs.{needs}
-use Rattle.model.specs.Tasks.{Task, Edge, processorOf, Next, Last, First, ProcessorEdge, onward, around}
-use Rattle.model.specs.Processors.{processorEdge}
+use Rattle.model.specs.Tasks.{Task, processorOf, onward, around}
 use Rattle.model.proofs.Basics.{order}
 use Rattle.model.proofs.Processors.{edge-is}
-use Rattle.files.specs.Working.{ProcessorsOf, edgeOf}
-use Rattle.files.proofs.records.processor_edge.Statement.{statement}
-use Rattle.files.proofs.records.processor_edge.Tie as tie
+use Rattle.records.specs.Columns.{ProcessorsOf, edgeOf}
+use Rattle.records.proofs.processor_edge.Statement.{statement}
+use Rattle.records.proofs.processor_edge.Tie as tie
 
 -- No task on the processor of v stands among those of a part of the list.
 absent : {ts : List Task} {ps : List ℕ} → ProcessorsOf ts ps → (v from to : ℕ) → v < length ts → to ≤ length ts
