@@ -399,7 +399,8 @@ mod tests {
     }
 
     fn proposal_refusal(fields: &ProposalFields, tasks: usize) -> (usize, usize) {
-        let refusal = read_proposal(&write_proposal(fields), tasks).expect_err("nothing was refused");
+        let refusal =
+            read_proposal(&write_proposal(fields), tasks).expect_err("nothing was refused");
         (refusal.number, refusal.place)
     }
 

@@ -1,3 +1,4 @@
 pub mod Refusals
 pub mod Files
 pub mod Working
+pub mod Theorems
