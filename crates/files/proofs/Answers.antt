@@ -9,11 +9,11 @@ use Rattle.files.specs.Files.{graphOf, proposalOf, graphFrameRefusal, gr
 use Rattle.files.specs.Working.{ifPassed, workingGraph, refusedGraph, graphAnswer, graphReading, workingProposal, refusedProposal, proposalAnswer, proposalReading}
 use Rattle.files.proofs.First.{ends-with, goes-on, last-answer, none-refused, number-same}
 
-if-passed : {A : Type 0} (n : ℕ) (read refused : A) → n ≡ 0 → ifPassed n read refused ≡ read
+pub if-passed : {A : Type 0} (n : ℕ) (read refused : A) → n ≡ 0 → ifPassed n read refused ≡ read
 unfolding ifPassed
 if-passed n read refused none = ap (λ (m : ℕ). ifPassed m read refused) none
 
-if-refused : {A : Type 0} (n : ℕ) (read refused : A) → n ≢ 0 → ifPassed n read refused ≡ refused
+pub if-refused : {A : Type 0} (n : ℕ) (read refused : A) → n ≢ 0 → ifPassed n read refused ≡ refused
 unfolding ifPassed
 if-refused zero read refused some = absurd (some refl)
 if-refused (suc n) read refused some = refl

@@ -29,11 +29,11 @@ pub check-passed : (b : Bool) (n p : ℕ) → n ≢ 0 → refuse b n p .number �
 check-passed true n p some none = absurd (some (number-same (sym (refused n p refl)) ∙ none))
 check-passed false n p some none = refl
 
-or-left-false : (a b : Bool) → (a || b) ≡ false → a ≡ false
+pub or-left-false : (a b : Bool) → (a || b) ≡ false → a ≡ false
 or-left-false true b e = e
 or-left-false false b e = refl
 
-or-right-false : (a b : Bool) → (a || b) ≡ false → b ≡ false
+pub or-right-false : (a b : Bool) → (a || b) ≡ false → b ≡ false
 or-right-false true b e = absurd (true≢false e)
 or-right-false false b e = e
 

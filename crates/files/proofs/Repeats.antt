@@ -48,7 +48,7 @@ repeat-stops es j is = refused 8 (suc j) is ∙ ap (refusal 8) (sym (add-one j))
 
 pub repeat-passes : (es : List Edge) (j : ℕ) → repeatsEarlier es j ≡ false → repeatRefusal es j ≡ notRefused
 unfolding repeatRefusal
-repeat-passes es j is = not-refused 8 (suc j) is
+repeat-passes es j is = not-refused _ _ is
 
 -- Equal edges have equal numbers in the lists, and the other way round.
 module _ (es : List Edge) {sources sinks delays : List ℕ} (from : SourcesOf es sources) (to : SinksOf es sinks) (turns : DelaysOf es delays)

@@ -29,7 +29,7 @@ module _ (g : Graph) {times : List ℕ} (of : TimesOf (g .tasks) times) (v : ℕ
 
   pub time-passes : getD times v 0 ≢ 0 → timeRefusal g v ≡ notRefused
   unfolding timeRefusal
-  time-passes some = not-refused 5 v (ne-eqb (timeOf g v) 0 (λ e. some (time-is ∙ e)))
+  time-passes some = not-refused _ _ (ne-eqb (timeOf g v) 0 (λ e. some (time-is ∙ e)))
 
   pub time-stops : getD times v 0 ≡ 0 → timeRefusal g v ≡ refusal 5 v
   unfolding timeRefusal
@@ -65,7 +65,7 @@ module _ (es : List Edge) {sources sinks : List ℕ} (from : SourcesOf es source
   pub ends-pass : (n : ℕ) → getD sources j 0 < n → getD sinks j 0 < n → endsRefusal n es j ≡ notRefused
   unfolding endsRefusal
   ends-pass n s t =
-      not-refused 6 (suc j)
+      not-refused _ _
       (inside n (edgeIn es j) (subst (λ (m : ℕ). m < n) source-is s) (subst (λ (m : ℕ). m < n) sink-is t))
 
   pub source-stops : (n : ℕ) → n ≤ getD sources j 0 → endsRefusal n es j ≡ refusal 6 (j + 1)

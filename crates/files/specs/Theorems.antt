@@ -1,4 +1,4 @@
--- The theorems about files, as statements. proofs/Theorems.antt proves each.
+-- The theorems about files, as statements. proofs/Accepted.antt and proofs/Held.antt prove them.
 use mathlib.Core.Path.{_≡_}
 use mathlib.Core.List.{List}
 use Prim.Native.Nat.{ℕ, _+_, _<_, _≤_}

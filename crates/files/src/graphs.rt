@@ -103,14 +103,15 @@ pub fn read_graph(bytes: &[u8]) -> GraphReading
 {
     let header = layout::graph_header(bytes);
     let frame = graph_frame_refusal(bytes, header);
+    let blank = refused_graph(frame);
     if frame.number != 0 {
-        return refused_graph(frame);
+        return blank;
     }
-    let mut processor = [0u8; 64];
-    let mut time = [0u16; 64];
-    let mut source = [0u8; 320];
-    let mut sink = [0u8; 320];
-    let mut delay = [0u8; 320];
+    let mut processor = blank.processor;
+    let mut time = blank.time;
+    let mut source = blank.source;
+    let mut sink = blank.sink;
+    let mut delay = blank.delay;
     let refusal = graph_records(
         bytes,
         header,

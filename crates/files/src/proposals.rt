@@ -72,12 +72,13 @@ pub fn read_proposal(bytes: &[u8], tasks: usize) -> ProposalReading
 {
     let header = layout::proposal_header(bytes);
     let frame = proposal_frame_refusal(bytes, header);
+    let blank = refused_proposal(frame);
     if frame.number != 0 {
-        return refused_proposal(frame);
+        return blank;
     }
-    let mut source = [0u8; 256];
-    let mut sink = [0u8; 256];
-    let mut delay = [0u8; 256];
+    let mut source = blank.source;
+    let mut sink = blank.sink;
+    let mut delay = blank.delay;
     let refusal = proposal_records(bytes, header, tasks, &mut source, &mut sink, &mut delay);
     if refusal.number != 0 {
         return refused_proposal(refusal);

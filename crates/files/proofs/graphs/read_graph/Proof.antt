@@ -1,11 +1,13 @@
 -- `files::graphs::read_graph` meets its contract: the first of the two groups of checks that refuses is the answer, else the lists are.
-use mathlib.Core.Path.{_≡_, refl, sym, ap, _∙_, subst}
+use mathlib.Core.Path.{_≡_, sym, ap, _∙_, subst}
 use Prim.Native.Nat.{_≤_}
+use lib.ListN.{length}
 use Rattle.layout.specs.declared.GraphHeader.{GraphHeader}
+use Rattle.records.proofs.Parts.{zeros-length}
+use Rattle.files.specs.declared.GraphReading.{GraphReading}
 use Rattle.files.specs.Refusals.{notRefused}
 use Rattle.files.specs.Files.{graphOf}
-use Rattle.records.specs.Columns.{zeros}
-use Rattle.files.specs.Working.{workingGraph, graphReading}
+use Rattle.files.specs.Working.{workingGraph, refusedGraph, graphReading}
 use Rattle.files.proofs.First.{number-same}
 use Rattle.files.proofs.Whole.{header-tasks, header-edges}
 use Rattle.files.proofs.Passed.{graph-frame-passed}
@@ -25,7 +27,7 @@ refused-graph-requires c κs = search needs
 
 returns : tie.Need-returns
 returns c =
-    c .refused-graph .ensures ∙ sym (graph-ends (c .before .before .before .before .before .before .args .bytes .now) (c .before .before .before .graph-frame-refusal .ensures) (c .before .if1 .taken))
+    c .before .before .refused-graph .ensures ∙ sym (graph-ends (c .before .before .before .before .before .before .args .bytes .now) (c .before .before .before .graph-frame-refusal .ensures) (c .if1 .taken))
 
 slice-aggregate-graph-records : tie.Need-slice-aggregate-graph-records
 slice-aggregate-graph-records c = search needs
@@ -37,22 +39,23 @@ slice-aggregate-graph-records-3 : tie.Need-slice-aggregate-graph-records-3
 slice-aggregate-graph-records-3 c = search needs
 
 slice-aggregate-graph-records-4 : tie.Need-slice-aggregate-graph-records-4
-slice-aggregate-graph-records-4 c = search needs
+unfolding refusedGraph
+slice-aggregate-graph-records-4 c = sym (ap (λ (r : GraphReading). length (r .sink)) (c .before .before .before .before .before .before .before .before .before .before .before .refused-graph .ensures) ∙ zeros-length 320)
 
 slice-aggregate-graph-records-5 : tie.Need-slice-aggregate-graph-records-5
-slice-aggregate-graph-records-5 c = search needs
+unfolding refusedGraph
+slice-aggregate-graph-records-5 c = sym (ap (λ (r : GraphReading). length (r .delay)) (c .before .before .before .before .before .before .before .before .before .before .before .before .refused-graph .ensures) ∙ zeros-length 320)
 
 graph-records-requires : tie.Need-graph-records-requires
-unfolding zeros
+unfolding refusedGraph
 graph-records-requires c κs =
-    let header = c .before .before .before .before .before .before .before .before .graph-header .ensures in
-    let frame = graph-frame-passed (c .before .before .before .before .before .before .before .before .before .before .args .bytes .now) (number-same (sym (c .before .before .before .before .before .before .before .graph-frame-refusal .ensures)) ∙ c .before .before .before .before .before .if1 .left) in (
-      header,
-      (
-        (subst (λ (h : GraphHeader). h .tasks ≤ 64) (sym header) (frame .at-most-64), subst (λ (h : GraphHeader). h .edges ≤ 256) (sym header) (frame .at-most-256)),
-        ((refl, refl), (refl, refl, refl)),
-      ),
-    )
+    let header = c .before .before .before .before .before .before .before .before .before .before .before .before .before .before .graph-header .ensures in
+    let frame = graph-frame-passed (c .before .before .before .before .before .before .before .before .before .before .before .before .before .before .before .before .args .bytes .now) (number-same (sym (c .before .before .before .before .before .before .before .before .before .before .before .before .before .graph-frame-refusal .ensures)) ∙ c .before .before .before .before .before .before .before .before .before .before .if1 .left) in
+    let blank = c .before .before .before .before .before .before .before .before .before .before .before .before .refused-graph .ensures in
+    (header,
+    ((subst (λ (h : GraphHeader). h .tasks ≤ 64) (sym header) (frame .at-most-64), subst (λ (h : GraphHeader). h .edges ≤ 256) (sym header) (frame .at-most-256)),
+    ((ap (λ (r : GraphReading). r .processor) blank, ap (λ (r : GraphReading). r .time) blank),
+    (ap (λ (r : GraphReading). r .source) blank, ap (λ (r : GraphReading). r .sink) blank, ap (λ (r : GraphReading). r .delay) blank))))
 
 refused-graph-requires-2 : tie.Need-refused-graph-requires-2
 refused-graph-requires-2 c κs = search needs
@@ -60,18 +63,19 @@ refused-graph-requires-2 c κs = search needs
 returns-2 : tie.Need-returns-2
 returns-2 c =
     c .refused-graph2 .ensures ∙
-    sym (graph-stops (c .before .before .before .before .before .before .before .before .before .before .before .before .before .before .before .before .before .before .before .args .bytes .now) (c .before .before .before .before .before .before .before .before .before .before .before .before .before .before .before .before .graph-frame-refusal .ensures) (c .before .before .before .before .before .before .before .before .before .before .before .before .before .before .if1 .left) (c .before .before .before .before .before .before .before .before .graph-records .ensures .0) (c .before .if2 .taken))
+    sym (graph-stops (c .before .before .before .before .before .before .before .before .before .before .before .before .before .before .before .before .before .before .before .before .before .before .before .before .before .args .bytes .now) (c .before .before .before .before .before .before .before .before .before .before .before .before .before .before .before .before .before .before .before .before .before .before .graph-frame-refusal .ensures) (c .before .before .before .before .before .before .before .before .before .before .before .before .before .before .before .before .before .before .before .if1 .left) (c .before .before .before .before .before .before .before .before .graph-records .ensures .0) (c .before .if2 .taken))
 
 returns-3 : tie.Need-returns-3
 unfolding workingGraph graphOf
 returns-3 c =
-    let s = c .before .before .before .before .before .before .before .before .before .before .before .before .before .before .before .before .before .before .args .bytes .now in
-    let header = c .before .before .before .before .before .before .before .before .before .before .before .before .before .before .before .before .graph-header .ensures in
-    let frame = c .before .before .before .before .before .before .before .before .before .before .before .before .before .before .before .graph-frame-refusal .ensures in
-    let passed = c .before .before .before .before .before .before .before .before .before .before .before .before .before .if1 .left in
+    let s = c .before .before .before .before .before .before .before .before .before .before .before .before .before .before .before .before .before .before .before .before .before .before .before .before .args .bytes .now in
+    let header = c .before .before .before .before .before .before .before .before .before .before .before .before .before .before .before .before .before .before .before .before .before .before .graph-header .ensures in
+    let frame = c .before .before .before .before .before .before .before .before .before .before .before .before .before .before .before .before .before .before .before .before .before .graph-frame-refusal .ensures in
+    let passed = c .before .before .before .before .before .before .before .before .before .before .before .before .before .before .before .before .before .before .if1 .left in
     let said = c .before .before .before .before .before .before .before .graph-records .ensures in
     let none : c .before .before .before .before .before .before .before .graph-records .result ≡ notRefused = graph-passed s frame passed (said .0) (c .if2 .left) in
     let read : workingGraph (graphOf s) ≡ graphReading s = sym (graph-read s frame passed (said .0) (c .if2 .left)) in
+    _∙_ {b = workingGraph (graphOf s)}
     (λ i.
     record {
       refusal = none i;
@@ -85,7 +89,7 @@ returns-3 c =
       source = said .1 .1 .1 .0 i;
       sink = said .1 .1 .1 .1 .0 i;
       delay = said .1 .1 .1 .1 .1 i;
-    }) ∙
+    })
     read
 
 pub read-graph-spec : {M : Type 1} → statement M

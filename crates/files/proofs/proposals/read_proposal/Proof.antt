@@ -1,12 +1,12 @@
 -- `files::proposals::read_proposal` meets its contract: the first of the two groups of checks that refuses is the answer, else the lists are.
-use mathlib.Core.Path.{_≡_, refl, sym, ap, _∙_, subst}
+use mathlib.Core.Path.{_≡_, sym, ap, _∙_, subst}
 use Prim.Native.Nat.{_≤_}
 use lib.ListN.{length}
 use Rattle.layout.specs.declared.ProposalHeader.{ProposalHeader}
+use Rattle.files.specs.declared.ProposalReading.{ProposalReading}
 use Rattle.files.specs.Refusals.{notRefused}
 use Rattle.files.specs.Files.{proposalOf}
-use Rattle.records.specs.Columns.{zeros}
-use Rattle.files.specs.Working.{workingProposal, proposalReading}
+use Rattle.files.specs.Working.{workingProposal, refusedProposal, proposalReading}
 use Rattle.files.proofs.First.{number-same}
 use Rattle.files.proofs.Whole.{proposal-count}
 use Rattle.files.proofs.Passed.{proposal-frame-passed}
@@ -26,7 +26,7 @@ refused-proposal-requires c κs = search needs
 
 returns : tie.Need-returns
 returns c =
-    c .refused-proposal .ensures ∙ sym (proposal-ends (c .before .before .before .before .before .before .args .tasks) (c .before .before .before .before .before .before .args .bytes .now) (c .before .before .before .proposal-frame-refusal .ensures) (c .before .if1 .taken))
+    c .before .before .refused-proposal .ensures ∙ sym (proposal-ends (c .before .before .before .before .before .before .args .tasks) (c .before .before .before .before .before .before .args .bytes .now) (c .before .before .before .proposal-frame-refusal .ensures) (c .if1 .taken))
 
 slice-aggregate-proposal-records : tie.Need-slice-aggregate-proposal-records
 slice-aggregate-proposal-records c = search needs
@@ -38,11 +38,14 @@ slice-aggregate-proposal-records-3 : tie.Need-slice-aggregate-proposal-records-3
 slice-aggregate-proposal-records-3 c = search needs
 
 proposal-records-requires : tie.Need-proposal-records-requires
-unfolding zeros
+unfolding refusedProposal
 proposal-records-requires c κs =
-    let header = c .before .before .before .before .before .before .proposal-header .ensures in
-    let frame = proposal-frame-passed (c .before .before .before .before .before .before .before .before .args .bytes .now) (number-same (sym (c .before .before .before .before .before .proposal-frame-refusal .ensures)) ∙ c .before .before .before .if1 .left) in
-    (header, (subst (λ (h : ProposalHeader). h .edges ≤ 256) (sym header) (frame .at-most-256), (refl, refl, refl)))
+    let header = c .before .before .before .before .before .before .before .before .before .before .proposal-header .ensures in
+    let frame = proposal-frame-passed (c .before .before .before .before .before .before .before .before .before .before .before .before .args .bytes .now) (number-same (sym (c .before .before .before .before .before .before .before .before .before .proposal-frame-refusal .ensures)) ∙ c .before .before .before .before .before .before .if1 .left) in
+    let blank = c .before .before .before .before .before .before .before .before .refused-proposal .ensures in
+    (header,
+    (subst (λ (h : ProposalHeader). h .edges ≤ 256) (sym header) (frame .at-most-256),
+    (ap (λ (r : ProposalReading). r .source) blank, ap (λ (r : ProposalReading). r .sink) blank, ap (λ (r : ProposalReading). r .delay) blank)))
 
 refused-proposal-requires-2 : tie.Need-refused-proposal-requires-2
 refused-proposal-requires-2 c κs = search needs
@@ -50,21 +53,23 @@ refused-proposal-requires-2 c κs = search needs
 returns-2 : tie.Need-returns-2
 returns-2 c =
     c .refused-proposal2 .ensures ∙
-    sym (proposal-stops (c .before .before .before .before .before .before .before .before .before .before .before .before .before .before .before .args .tasks) (c .before .before .before .before .before .before .before .before .before .before .before .before .before .before .before .args .bytes .now) (c .before .before .before .before .before .before .before .before .before .before .before .before .proposal-frame-refusal .ensures) (c .before .before .before .before .before .before .before .before .before .before .if1 .left) (c .before .before .before .before .before .before .proposal-records .ensures .0) (c .before .if2 .taken))
+    sym (proposal-stops (c .before .before .before .before .before .before .before .before .before .before .before .before .before .before .before .before .before .before .before .args .tasks) (c .before .before .before .before .before .before .before .before .before .before .before .before .before .before .before .before .before .before .before .args .bytes .now) (c .before .before .before .before .before .before .before .before .before .before .before .before .before .before .before .before .proposal-frame-refusal .ensures) (c .before .before .before .before .before .before .before .before .before .before .before .before .before .if1 .left) (c .before .before .before .before .before .before .proposal-records .ensures .0) (c .before .if2 .taken))
 
 returns-3 : tie.Need-returns-3
 unfolding workingProposal
 returns-3 c =
-    let n = c .before .before .before .before .before .before .before .before .before .before .before .before .before .before .args .tasks in
-    let s = c .before .before .before .before .before .before .before .before .before .before .before .before .before .before .args .bytes .now in
-    let frame = c .before .before .before .before .before .before .before .before .before .before .before .proposal-frame-refusal .ensures in
-    let passed = c .before .before .before .before .before .before .before .before .before .if1 .left in
+    let n = c .before .before .before .before .before .before .before .before .before .before .before .before .before .before .before .before .before .before .args .tasks in
+    let s = c .before .before .before .before .before .before .before .before .before .before .before .before .before .before .before .before .before .before .args .bytes .now in
+    let frame = c .before .before .before .before .before .before .before .before .before .before .before .before .before .before .before .proposal-frame-refusal .ensures in
+    let passed = c .before .before .before .before .before .before .before .before .before .before .before .before .if1 .left in
     let said = c .before .before .before .before .before .proposal-records .ensures in
-    let count : c .before .before .before .before .before .before .before .before .before .before .before .before .proposal-header .result .edges ≡ length (proposalOf s)
-    = ap (λ (h : ProposalHeader). h .edges) (c .before .before .before .before .before .before .before .before .before .before .before .before .proposal-header .ensures) ∙ sym (proposal-count s) in
+    let count : c .before .before .before .before .before .before .before .before .before .before .before .before .before .before .before .before .proposal-header .result .edges ≡ length (proposalOf s)
+    = ap (λ (h : ProposalHeader). h .edges) (c .before .before .before .before .before .before .before .before .before .before .before .before .before .before .before .before .proposal-header .ensures) ∙ sym (proposal-count s) in
     let none : c .before .before .before .before .before .proposal-records .result ≡ notRefused = proposal-passed n s frame passed (said .0) (c .if2 .left) in
     let read : workingProposal (proposalOf s) ≡ proposalReading n s = sym (proposal-read n s frame passed (said .0) (c .if2 .left)) in
-    (λ i. record { refusal = none i; edges = count i; source = said .1 .0 i; sink = said .1 .1 .0 i; delay = said .1 .1 .1 i }) ∙ read
+    _∙_ {b = workingProposal (proposalOf s)}
+    (λ i. record { refusal = none i; edges = count i; source = said .1 .0 i; sink = said .1 .1 .0 i; delay = said .1 .1 .1 i })
+    read
 
 pub read-proposal-spec : {M : Type 1} → statement M
 read-proposal-spec =
