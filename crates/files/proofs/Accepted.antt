@@ -1,26 +1,28 @@
 -- A file of which nothing is refused holds a well-formed graph, or well-formed proposed edges: each condition of a refusal fails, and fields are
 -- below the powers of their widths.
-use mathlib.Core.Path.{_≡_, refl, sym, ap, _∙_, subst}
+use mathlib.Core.Path.{_≡_, refl, sym, _∙_, subst}
 use mathlib.Core.Logic.{_⊎_, inl, inr, _≢_}
-use mathlib.Core.Bool.{Bool, true, false, not, true≢false}
+use mathlib.Core.Bool.{false, not, true≢false}
 use mathlib.Core.List.{List, [], _∷_, _++_}
-use Prim.Native.Nat.{ℕ, zero, suc, _+_, _≤_, _<_, _^_}
+use Prim.Native.Nat.{ℕ, zero, suc, _≤_, _<_, _^_}
 use native.Mathlib.Nat.{not-suc-le-zero}
 use native.Mathlib.Omega.{arith}
-use lib.Dec.{T, eqb, ltb}
-use lib.ListN.{length, getD}
+use lib.Dec.{eqb, ltb}
+use lib.ListN.{length}
 use borrow.Author.Tests.{ltb-true, eqb-false, not-false}
 use Rattle.bits.proofs.Laws.{field-below}
 use Rattle.model.specs.Lists.{tabulate}
-use Rattle.model.specs.Tasks.{Task, Edge, _∈_, Ends, Distinct, noTask, noEdge, processorOf}
-use Rattle.model.specs.Graph.{Graph, WellFormed, WellFormedEdges, count, timeOf}
-use Rattle.model.proofs.Basics.{below-suc, member-place}
-use Rattle.layout.specs.Layout.{graphHeader, graphHeaderBits, proposalHeaderBits, recordStart, taskAt, edgeAt}
+use Rattle.model.specs.Tasks.{Task, Edge, _∈_, Distinct, noEdge, processorOf}
+use Rattle.model.specs.Graph.{Graph, timeOf}
+use Rattle.model.specs.Compute.{sameEdge}
+use Rattle.model.proofs.Basics.{below-suc, member-place, any-in, any-out}
+use Rattle.model.proofs.Tests.{same-edge, decides-iff, decides-true}
+use Rattle.layout.specs.Layout.{graphHeader, graphHeaderBits, proposalHeaderBits, recordStart, edgeAt}
 use Rattle.layout.proofs.Records.{processor-below, time-below, delay-below}
 use Rattle.files.specs.declared.Refusal.{Refusal}
-use Rattle.files.specs.Refusals.{notRefused, refuse, first}
+use Rattle.files.specs.Refusals.{refuse, first}
 use Rattle.files.specs.Files.{taskCount, edgeCount, edgesFrom, graphOf, proposalOf, edgeIn, endOutside, withinProcessor, repeatsEarlier, timeRefusal, endsRefusal, edgeRefusal, repeatRefusal, firstOf, graphFrameRefusal, graphRecordsRefusal, graphRefusal, proposalFrameRefusal, proposedEdgesRefusal, proposalRefusal}
-use Rattle.files.specs.Theorems.{GraphFormed, ProposalFormed}
+use Rattle.files.specs.Theorems.{GraphFormed, ProposalFormed, RepeatsEarlierIs}
 use Rattle.files.proofs.First.{zero-or-not, number-same, stopped-before, passed-all}
 use Rattle.files.proofs.Repeats.{repeats}
 use Rattle.files.proofs.Whole.{edges-from-count, edge-from, task-count, sync-count, task-is, proposal-count}
@@ -55,12 +57,13 @@ every-passed (suc n) f none i l = go (below-suc l) (every-passed n f before i)
 distinct-from : (es : List Edge) → ((i j : ℕ) → i < j → j < length es → edgeIn es i ≢ edgeIn es j) → Distinct es
 unfolding edgeIn
 distinct-from [] apart = tt
-distinct-from (e ∷ es) apart =
-    (λ m.
-    let r = member-place noEdge m in
-    let l = r .1 in
-    apart 0 (suc (r .0)) (omega arith) (omega arith) (sym (r .2)),
-    distinct-from es (λ i j l k. apart (suc i) (suc j) (omega arith) (omega arith)))
+distinct-from (e ∷ es) apart = (
+  λ m.
+      let r = member-place noEdge m in
+      let l = r .1 in
+      apart 0 (suc (r .0)) (omega arith) (omega arith) (sym (r .2)),
+  distinct-from es (λ i j l k. apart (suc i) (suc j) (omega arith) (omega arith)),
+)
 
 no-repeats : (es : List Edge) → firstOf (length es) (repeatRefusal es) .number ≡ 0 → Distinct es
 unfolding repeatRefusal
@@ -74,9 +77,10 @@ no-repeats es none =
 -- an edge of which 6 does not hold
 inside-of : (n : ℕ) (e : Edge) → endOutside n e ≡ false → (e .source < n) × (e .sink < n)
 unfolding endOutside
-inside-of n e none =
-    (ltb-true (e .source) n (not-false _ (or-left-false (not (ltb (e .source) n)) (not (ltb (e .sink) n)) none)),
-    ltb-true (e .sink) n (not-false _ (or-right-false (not (ltb (e .source) n)) (not (ltb (e .sink) n)) none)))
+inside-of n e none = (
+  ltb-true (e .source) n (not-false _ (or-left-false (not (ltb (e .source) n)) (not (ltb (e .sink) n)) none)),
+  ltb-true (e .sink) n (not-false _ (or-right-false (not (ltb (e .source) n)) (not (ltb (e .sink) n)) none)),
+)
 
 -- what holds of the edge at each place holds of each edge
 of-members : (P : Edge → Type 0) (es : List Edge) → ((j : ℕ) → j < length es → P (edgeIn es j)) → (e : Edge) → e ∈ es → P e
@@ -106,7 +110,7 @@ proposal-formed n s none =
     record {
       few = subst (λ (k : ℕ). k ≤ 256) (sym (proposal-count s)) (frame .at-most-256);
       ends = of-members (λ e. (e .source < n) × (e .sink < n)) es
-      (λ j l. inside-of n (edgeIn es j) (check-passed (endOutside n (edgeIn es j)) 6 (suc j) (λ z. omega arith) (every-passed (length es) (endsRefusal n es) ends j l)));
+          (λ j l. inside-of n (edgeIn es j) (check-passed (endOutside n (edgeIn es j)) 6 (suc j) (λ z. omega arith) (every-passed (length es) (endsRefusal n es) ends j l)));
       delays = delays-small s proposalHeaderBits _;
       distinct = no-repeats es apart;
     }
@@ -181,15 +185,26 @@ graph-formed s none =
       processors = λ v l. processor-small s v l;
       times = λ v l. time-fits s v l (every-passed (length ts) (timeRefusal g) times v l);
       syncs-formed =
-      record {
-        few = subst (λ (k : ℕ). k ≤ 256) (sym (sync-count s)) (frame .at-most-256);
-        ends = of-members (λ e. (e .source < length ts) × (e .sink < length ts)) es (λ j l. ends-inside ts es j (every-passed (length es) (edgeRefusal ts es) edge-checks j l));
-        delays = file-delays s;
-        distinct = no-repeats es apart;
-      };
+          record {
+            few = subst (λ (k : ℕ). k ≤ 256) (sym (sync-count s)) (frame .at-most-256);
+            ends = of-members (λ e. (e .source < length ts) × (e .sink < length ts)) es (λ j l. ends-inside ts es j (every-passed (length es) (edgeRefusal ts es) edge-checks j l));
+            delays = file-delays s;
+            distinct = no-repeats es apart;
+          };
       between-processors =
-      of-members (λ e. processorOf ts (e .source) ≢ processorOf ts (e .sink)) es (λ j l. apart-processors ts es j (every-passed (length es) (edgeRefusal ts es) edge-checks j l));
+          of-members (λ e. processorOf ts (e .source) ≢ processorOf ts (e .sink)) es (λ j l. apart-processors ts es j (every-passed (length es) (edgeRefusal ts es) edge-checks j l));
       input-below = input-inside s (frame .input-below);
       output-below = output-inside s (frame .output-below);
       bound-fits = bound-small s;
     }
+
+-- ── 8's test ──
+
+pub repeats-earlier-is : RepeatsEarlierIs
+unfolding repeatsEarlier
+repeats-earlier-is es j =
+    decides-iff
+    (λ t.
+    let r = any-out j (λ i. sameEdge (edgeIn es i) (edgeIn es j)) t in
+    (r .0, r .1, same-edge (edgeIn es (r .0)) (edgeIn es j) .if-true (r .2)))
+    (λ r. any-in j (λ i. sameEdge (edgeIn es i) (edgeIn es j)) (r .0) (r .1) (decides-true (same-edge (edgeIn es (r .0)) (edgeIn es j)) (r .2)))

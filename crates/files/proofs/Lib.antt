@@ -4,7 +4,5 @@ pub mod Single
 pub mod Repeats
 pub mod Frame
 pub mod Passed
-pub mod Answers
 pub mod Accepted
-pub mod Held
 pub mod Example

@@ -1,4 +1,3 @@
 pub mod Refusals
 pub mod Files
-pub mod Working
 pub mod Theorems

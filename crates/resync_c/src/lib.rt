@@ -1,15 +1,15 @@
 // The calls for C and Rust. Each contract says the same as that of the call below it.
 ghost use mathlib.Core.Path.{_≡_};
-ghost use Rattle.files.specs.Working.{graphReading, proposalReading};
-use files::GraphReading;
-use files::ProposalReading;
+ghost use Rattle.readings.specs.Working.{graphReading, proposalReading};
+use readings::GraphReading;
+use readings::ProposalReading;
 
 // Which graph a file is, or which refusal of 1 to 8 it gets.
 #[no_mangle]
 pub extern "C" fn resync_read_graph(file: &[u8]) -> GraphReading
     ensures { λ r. ⌜ r ≡ graphReading (now (file .entry)) ⌝ }
 {
-    files::read_graph(file)
+    readings::read_graph(file)
 }
 
 // Which edges a file proposes beside a graph of so many tasks, or which refusal of 1 to 8 it gets.
@@ -17,5 +17,5 @@ pub extern "C" fn resync_read_graph(file: &[u8]) -> GraphReading
 pub extern "C" fn resync_read_proposal(file: &[u8], tasks: usize) -> ProposalReading
     ensures { λ r. ⌜ r ≡ proposalReading tasks (now (file .entry)) ⌝ }
 {
-    files::read_proposal(file, tasks)
+    readings::read_proposal(file, tasks)
 }

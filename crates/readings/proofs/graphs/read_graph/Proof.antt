@@ -1,20 +1,20 @@
--- `files::graphs::read_graph` meets its contract: the first of the two groups of checks that refuses is the answer, else the lists are.
+-- `readings::graphs::read_graph` meets its contract: the first of the two groups of checks that refuses is the answer, else the lists are.
 use mathlib.Core.Path.{_≡_, sym, ap, _∙_, subst}
 use Prim.Native.Nat.{_≤_}
 use lib.ListN.{length}
 use Rattle.layout.specs.declared.GraphHeader.{GraphHeader}
 use Rattle.records.proofs.Parts.{zeros-length}
-use Rattle.files.specs.declared.GraphReading.{GraphReading}
+use Rattle.readings.specs.declared.GraphReading.{GraphReading}
 use Rattle.files.specs.Refusals.{notRefused}
 use Rattle.files.specs.Files.{graphOf}
-use Rattle.files.specs.Working.{workingGraph, refusedGraph, graphReading}
+use Rattle.readings.specs.Working.{workingGraph, refusedGraph, graphReading}
 use Rattle.files.proofs.First.{number-same}
 use Rattle.files.proofs.Whole.{header-tasks, header-edges}
 use Rattle.files.proofs.Passed.{graph-frame-passed}
-use Rattle.files.proofs.Answers.{graph-ends, graph-stops, graph-passed, graph-read}
+use Rattle.readings.proofs.Answers.{graph-ends, graph-stops, graph-passed, graph-read}
 use borrow.Author.Needs.{needs}
-use Rattle.files.proofs.graphs.read_graph.Statement.{statement}
-use Rattle.files.proofs.graphs.read_graph.Tie as tie
+use Rattle.readings.proofs.graphs.read_graph.Statement.{statement}
+use Rattle.readings.proofs.graphs.read_graph.Tie as tie
 
 graph-header-requires : tie.Need-graph-header-requires
 graph-header-requires c κs = search needs
@@ -51,11 +51,16 @@ unfolding refusedGraph
 graph-records-requires c κs =
     let header = c .before .before .before .before .before .before .before .before .before .before .before .before .before .before .graph-header .ensures in
     let frame = graph-frame-passed (c .before .before .before .before .before .before .before .before .before .before .before .before .before .before .before .before .args .bytes .now) (number-same (sym (c .before .before .before .before .before .before .before .before .before .before .before .before .before .graph-frame-refusal .ensures)) ∙ c .before .before .before .before .before .before .before .before .before .before .if1 .left) in
-    let blank = c .before .before .before .before .before .before .before .before .before .before .before .before .refused-graph .ensures in
-    (header,
-    ((subst (λ (h : GraphHeader). h .tasks ≤ 64) (sym header) (frame .at-most-64), subst (λ (h : GraphHeader). h .edges ≤ 256) (sym header) (frame .at-most-256)),
-    ((ap (λ (r : GraphReading). r .processor) blank, ap (λ (r : GraphReading). r .time) blank),
-    (ap (λ (r : GraphReading). r .source) blank, ap (λ (r : GraphReading). r .sink) blank, ap (λ (r : GraphReading). r .delay) blank))))
+    let blank = c .before .before .before .before .before .before .before .before .before .before .before .before .refused-graph .ensures in (
+      header,
+      (
+        (subst (λ (h : GraphHeader). h .tasks ≤ 64) (sym header) (frame .at-most-64), subst (λ (h : GraphHeader). h .edges ≤ 256) (sym header) (frame .at-most-256)),
+        (
+          (ap (λ (r : GraphReading). r .processor) blank, ap (λ (r : GraphReading). r .time) blank),
+          (ap (λ (r : GraphReading). r .source) blank, ap (λ (r : GraphReading). r .sink) blank, ap (λ (r : GraphReading). r .delay) blank),
+        ),
+      ),
+    )
 
 refused-graph-requires-2 : tie.Need-refused-graph-requires-2
 refused-graph-requires-2 c κs = search needs

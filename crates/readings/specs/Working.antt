@@ -7,11 +7,11 @@ use Rattle.model.specs.Lists.{tabulate}
 use Rattle.model.specs.Tasks.{Edge, processorOf}
 use Rattle.model.specs.Graph.{Graph, timeOf, edges}
 use Rattle.records.specs.Columns.{zeros}
 use Rattle.files.specs.declared.Refusal.{Refusal}
-use Rattle.files.specs.declared.GraphReading.{GraphReading}
-use Rattle.files.specs.declared.ProposalReading.{ProposalReading}
+use Rattle.readings.specs.declared.GraphReading.{GraphReading}
+use Rattle.readings.specs.declared.ProposalReading.{ProposalReading}
 use Rattle.files.specs.Refusals.{notRefused}
 use Rattle.files.specs.Files.{edgeIn, graphOf, graphRefusal, proposalOf, proposalRefusal}
 
 unfoldable pub workingGraph : Graph → GraphReading
 workingGraph g = record {

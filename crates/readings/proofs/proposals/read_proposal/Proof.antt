@@ -1,19 +1,19 @@
--- `files::proposals::read_proposal` meets its contract: the first of the two groups of checks that refuses is the answer, else the lists are.
+-- `readings::proposals::read_proposal` meets its contract: the first of the two groups of checks that refuses is the answer, else the lists are.
 use mathlib.Core.Path.{_≡_, sym, ap, _∙_, subst}
 use Prim.Native.Nat.{_≤_}
 use lib.ListN.{length}
 use Rattle.layout.specs.declared.ProposalHeader.{ProposalHeader}
-use Rattle.files.specs.declared.ProposalReading.{ProposalReading}
+use Rattle.readings.specs.declared.ProposalReading.{ProposalReading}
 use Rattle.files.specs.Refusals.{notRefused}
 use Rattle.files.specs.Files.{proposalOf}
-use Rattle.files.specs.Working.{workingProposal, refusedProposal, proposalReading}
+use Rattle.readings.specs.Working.{workingProposal, refusedProposal, proposalReading}
 use Rattle.files.proofs.First.{number-same}
 use Rattle.files.proofs.Whole.{proposal-count}
 use Rattle.files.proofs.Passed.{proposal-frame-passed}
-use Rattle.files.proofs.Answers.{proposal-ends, proposal-stops, proposal-passed, proposal-read}
+use Rattle.readings.proofs.Answers.{proposal-ends, proposal-stops, proposal-passed, proposal-read}
 use borrow.Author.Needs.{needs}
-use Rattle.files.proofs.proposals.read_proposal.Statement.{statement}
-use Rattle.files.proofs.proposals.read_proposal.Tie as tie
+use Rattle.readings.proofs.proposals.read_proposal.Statement.{statement}
+use Rattle.readings.proofs.proposals.read_proposal.Tie as tie
 
 proposal-header-requires : tie.Need-proposal-header-requires
 proposal-header-requires c κs = search needs
@@ -42,10 +42,13 @@ unfolding refusedProposal
 proposal-records-requires c κs =
     let header = c .before .before .before .before .before .before .before .before .before .before .proposal-header .ensures in
     let frame = proposal-frame-passed (c .before .before .before .before .before .before .before .before .before .before .before .before .args .bytes .now) (number-same (sym (c .before .before .before .before .before .before .before .before .before .proposal-frame-refusal .ensures)) ∙ c .before .before .before .before .before .before .if1 .left) in
-    let blank = c .before .before .before .before .before .before .before .before .refused-proposal .ensures in
-    (header,
-    (subst (λ (h : ProposalHeader). h .edges ≤ 256) (sym header) (frame .at-most-256),
-    (ap (λ (r : ProposalReading). r .source) blank, ap (λ (r : ProposalReading). r .sink) blank, ap (λ (r : ProposalReading). r .delay) blank)))
+    let blank = c .before .before .before .before .before .before .before .before .refused-proposal .ensures in (
+      header,
+      (
+        subst (λ (h : ProposalHeader). h .edges ≤ 256) (sym header) (frame .at-most-256),
+        (ap (λ (r : ProposalReading). r .source) blank, ap (λ (r : ProposalReading). r .sink) blank, ap (λ (r : ProposalReading). r .delay) blank),
+      ),
+    )
 
 refused-proposal-requires-2 : tie.Need-refused-proposal-requires-2
 refused-proposal-requires-2 c κs = search needs

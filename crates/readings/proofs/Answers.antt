@@ -3,11 +3,11 @@ use mathlib.Core.Path.{_≡_, refl, sym, ap, _∙_}
 use mathlib.Core.Logic.{_≢_}
 use mathlib.Core.List.{List, [], _∷_}
 use Prim.Native.Nat.{ℕ, zero, suc}
 use Rattle.files.specs.declared.Refusal.{Refusal}
 use Rattle.files.specs.Refusals.{notRefused, first}
 use Rattle.files.specs.Files.{graphOf, proposalOf, graphFrameRefusal, graphRecordsRefusal, graphRefusal, proposalFrameRefusal, proposedEdgesRefusal, proposalRefusal}
-use Rattle.files.specs.Working.{ifPassed, workingGraph, refusedGraph, graphAnswer, graphReading, workingProposal, refusedProposal, proposalAnswer, proposalReading}
+use Rattle.readings.specs.Working.{ifPassed, workingGraph, refusedGraph, graphAnswer, graphReading, workingProposal, refusedProposal, proposalAnswer, proposalReading}
 use Rattle.files.proofs.First.{ends-with, goes-on, last-answer, none-refused, number-same}
 
 pub if-passed : {A : Type 0} (n : ℕ) (read refused : A) → n ≡ 0 → ifPassed n read refused ≡ read
 unfolding ifPassed

@@ -1,4 +1,4 @@
--- `files::graphs::graph_records` meets its contract: the lists hold the tasks, the processor edges and the file's edges, so the checks are theirs.
+-- `readings::graphs::graph_records` meets its contract: the lists hold the tasks, the processor edges and the file's edges, so the checks are theirs.
 use mathlib.Core.Path.{_≡_, refl, sym, ap, _∙_, subst}
 use mathlib.Core.List.{List}
 use Prim.Native.Nat.{ℕ, _+_, _≤_}
@@ -7,15 +7,15 @@ use lib.ListN.{length}
 use Rattle.model.specs.Lists.{tabulate}
 use Rattle.model.specs.Tasks.{noTask, processorOf}
 use Rattle.model.specs.Graph.{timeOf}
 use Rattle.files.specs.Files.{graphOf}
 use Rattle.records.specs.Columns.{zeros, withPart}
-use Rattle.files.specs.Working.{workingGraph}
+use Rattle.readings.specs.Working.{workingGraph}
 use Rattle.records.proofs.Fill.{length-tabulate}
 use Rattle.records.proofs.Parts.{part-length, zeros-length, zeros-room, within-list, column-of-front, column-of-take}
 use Rattle.files.proofs.Whole.{header-tasks, header-edges, task-list, edge-list, sync-column}
 use borrow.Author.Needs.{needs}
-use Rattle.files.proofs.graphs.graph_records.Statement.{statement}
-use Rattle.files.proofs.graphs.graph_records.Tie as tie
+use Rattle.readings.proofs.graphs.graph_records.Statement.{statement}
+use Rattle.readings.proofs.graphs.graph_records.Tie as tie
 
 -- a list of zeros with a filled front has room for the edges
 part-room :

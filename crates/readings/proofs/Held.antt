@@ -1,26 +1,20 @@
 -- The front of the working lists holds the numbers of the tasks and edges; and a reading carries its refusal.
-use mathlib.Core.Path.{_≡_, refl, sym, ap, _∙_, subst}
+use mathlib.Core.Path.{_≡_, refl, sym, ap, _∙_}
 use mathlib.Core.Logic.{_⊎_, inl, inr, _≢_}
-use mathlib.Core.List.{List}
-use mathlib.Core.Bool.{not}
-use Prim.Native.Nat.{ℕ, _+_, _≤_, _<_}
+use Prim.Native.Nat.{_+_, _≤_}
 use native.Mathlib.Omega.{arith}
-use lib.Dec.{T}
 use lib.ListN.{length}
-use Rattle.model.specs.Tasks.{Task, Edge, noTask, noEdge, processorOf}
-use Rattle.model.specs.Graph.{Graph, count, edges, timeOf}
-use Rattle.model.specs.Compute.{sameEdge}
-use Rattle.model.proofs.Basics.{any-in, any-out}
-use Rattle.model.proofs.Tests.{same-edge, decides-iff, decides-true}
+use Rattle.model.specs.Tasks.{noTask, noEdge, processorOf}
+use Rattle.model.specs.Graph.{count, edges, timeOf}
 use Rattle.records.proofs.Parts.{column-of-take}
-use Rattle.files.specs.declared.GraphReading.{GraphReading}
-use Rattle.files.specs.declared.ProposalReading.{ProposalReading}
-use Rattle.files.specs.Files.{graphOf, proposalOf, edgeIn, repeatsEarlier, graphRefusal, proposalRefusal}
-use Rattle.files.specs.Working.{workingGraph, refusedGraph, graphAnswer, graphReading, workingProposal, refusedProposal, proposalAnswer, proposalReading}
-use Rattle.files.specs.Theorems.{GraphRefusalGiven, GraphGiven, ProposalRefusalGiven, ProposalGiven, WorkingHolds, WorkingEdgesHold, RepeatsEarlierIs}
-use Rattle.files.proofs.First.{zero-or-not, none-refused, number-same}
+use Rattle.readings.specs.declared.GraphReading.{GraphReading}
+use Rattle.readings.specs.declared.ProposalReading.{ProposalReading}
+use Rattle.files.specs.Files.{graphOf, proposalOf, edgeIn, graphRefusal, proposalRefusal}
+use Rattle.readings.specs.Working.{workingGraph, refusedGraph, graphAnswer, graphReading, workingProposal, refusedProposal, proposalAnswer, proposalReading}
+use Rattle.readings.specs.Theorems.{GraphRefusalGiven, GraphGiven, ProposalRefusalGiven, ProposalGiven, WorkingHolds, WorkingEdgesHold}
+use Rattle.files.proofs.First.{zero-or-not, none-refused}
 use Rattle.files.proofs.Whole.{edges-count}
-use Rattle.files.proofs.Answers.{if-passed, if-refused}
+use Rattle.readings.proofs.Answers.{if-passed, if-refused}
 
 pub working-holds : WorkingHolds
 unfolding workingGraph processorOf timeOf edgeIn
@@ -67,12 +61,3 @@ proposal-refusal-given n s = go (zero-or-not (proposalRefusal n s .number))
     go : (proposalRefusal n s .number ≡ 0) ⊎ (proposalRefusal n s .number ≢ 0) → proposalReading n s .refusal ≡ proposalRefusal n s
     go (inl z) = ap (λ (r : ProposalReading). r .refusal) (proposal-given n s z) ∙ sym (none-refused _ z)
     go (inr k) = ap (λ (r : ProposalReading). r .refusal) (if-refused (proposalRefusal n s .number) (workingProposal (proposalOf s)) (refusedProposal (proposalRefusal n s)) k)
-
-pub repeats-earlier-is : RepeatsEarlierIs
-unfolding repeatsEarlier
-repeats-earlier-is es j =
-    decides-iff
-    (λ t.
-    let r = any-out j (λ i. sameEdge (edgeIn es i) (edgeIn es j)) t in
-    (r .0, r .1, same-edge (edgeIn es (r .0)) (edgeIn es j) .if-true (r .2)))
-    (λ r. any-in j (λ i. sameEdge (edgeIn es i) (edgeIn es j)) (r .0) (r .1) (decides-true (same-edge (edgeIn es (r .0)) (edgeIn es j)) (r .2)))

@@ -1,16 +1,16 @@
--- `files::proposals::proposal_records` meets its contract: the lists hold the file's edges, so the checks are theirs.
+-- `readings::proposals::proposal_records` meets its contract: the lists hold the file's edges, so the checks are theirs.
 use mathlib.Core.Path.{_≡_, refl, sym, ap, _∙_}
 use native.Mathlib.Omega.{arith}
 use lib.ListN.{length}
 use Rattle.model.specs.Tasks.{noEdge}
 use Rattle.layout.specs.declared.ProposalHeader.{ProposalHeader}
 use Rattle.files.specs.Files.{proposalOf, edgeIn}
-use Rattle.files.specs.Working.{workingProposal}
+use Rattle.readings.specs.Working.{workingProposal}
 use Rattle.records.proofs.Parts.{zeros-room, within-list, column-of-front}
 use Rattle.files.proofs.Whole.{proposal-list, proposal-count}
 use borrow.Author.Needs.{needs}
-use Rattle.files.proofs.proposals.proposal_records.Statement.{statement}
-use Rattle.files.proofs.proposals.proposal_records.Tie as tie
+use Rattle.readings.proofs.proposals.proposal_records.Statement.{statement}
+use Rattle.readings.proofs.proposals.proposal_records.Tie as tie
 
 cast-edges : tie.Need-cast-edges
 cast-edges c = search needs
