@@ -1,9 +1,10 @@
 -- Laws of fields: a field is below the power of its width, splits at any place, and is a byte where it covers one, each by
 -- induction on the width. By splits, whole bytes grow by the next byte, and a field is cut out of a longer one.
-use mathlib.Core.Path.{_≡_, sym, ap, _∙_}
+use mathlib.Core.Path.{_≡_, refl, sym, ap, _∙_}
+use mathlib.Core.Logic.{_⊎_, inl, inr}
 use mathlib.Core.List.{List}
 use Prim.Native.Nat.{ℕ, zero, suc, _+_, _-_, _*_, _/_, _%_, _^_, _<_}
-use native.Mathlib.Nat.{add-zero, add-suc, add-assoc, mul-assoc, pow-suc, div-eq-of-lt}
+use native.Mathlib.Nat.{not-suc-le-zero, le-of-suc-le-suc, eq-or-lt-of-le, add-zero, add-suc, add-assoc, mul-assoc, pow-suc, div-eq-of-lt}
 use native.Mathlib.Omega.{arith}
 use lib.ListN.{getD}
 use lib.Pow.{shr-shr, high, low}
@@ -72,3 +73,25 @@ field-high bytes position v w =
 pub field-low : (bytes : List ℕ) (position v w : ℕ) → field bytes position (v + w) % 2 ^ w ≡ field bytes (position + v) w
 field-low bytes position v w =
     ap (λ (n : ℕ). n % 2 ^ w) (field-split bytes position v w) ∙ low (field bytes position v) w (field-below bytes (position + v) w)
+
+-- A field is 0 exactly if each of its bits is.
+pub zero-bits :
+    (bytes : List ℕ) (position width : ℕ) → field bytes position width ≡ 0 → (i : ℕ) → i < width → bitAt bytes (position + i) ≡ 0
+unfolding field
+zero-bits bytes position zero none i l = absurd (not-suc-le-zero l)
+zero-bits bytes position (suc width) none i l = go (eq-or-lt-of-le (le-of-suc-le-suc l)) (zero-bits bytes position width)
+  where
+    go :
+        (i ≡ width) ⊎ (i < width) → (field bytes position width ≡ 0 → (k : ℕ) → k < width → bitAt bytes (position + k) ≡ 0)
+        → bitAt bytes (position + i) ≡ 0
+    go (inl e) rest = ap (λ (k : ℕ). bitAt bytes (position + k)) e ∙ omega arith
+    go (inr k) rest = rest (omega arith) i k
+
+pub bits-zero :
+    (bytes : List ℕ) (position width : ℕ) → ((i : ℕ) → i < width → bitAt bytes (position + i) ≡ 0) → field bytes position width ≡ 0
+unfolding field
+bits-zero bytes position zero none = refl
+bits-zero bytes position (suc width) none =
+    let last : bitAt bytes (position + width) ≡ 0 = none width (omega arith) in
+    let rest : field bytes position width ≡ 0 = bits-zero bytes position width (λ i l. none i (omega arith)) in
+    omega arith

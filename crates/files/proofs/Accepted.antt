@@ -14,15 +14,13 @@ use Rattle.bits.proofs.Laws.{field-below}
 use Rattle.model.specs.Lists.{tabulate}
 use Rattle.model.specs.Tasks.{Task, Edge, _∈_, Distinct, noEdge, processorOf}
 use Rattle.model.specs.Graph.{Graph, timeOf}
-use Rattle.model.specs.Compute.{sameEdge}
-use Rattle.model.proofs.Basics.{below-suc, member-place, any-in, any-out}
-use Rattle.model.proofs.Tests.{same-edge, decides-iff, decides-true}
+use Rattle.model.proofs.Basics.{below-suc, member-place}
 use Rattle.layout.specs.Layout.{graphHeader, graphHeaderBits, proposalHeaderBits, recordStart, edgeAt}
 use Rattle.layout.proofs.Records.{processor-below, time-below, delay-below}
 use Rattle.files.specs.declared.Refusal.{Refusal}
 use Rattle.files.specs.Refusals.{refuse, first}
 use Rattle.files.specs.Files.{taskCount, edgeCount, edgesFrom, graphOf, proposalOf, edgeIn, endOutside, withinProcessor, repeatsEarlier, timeRefusal, endsRefusal, edgeRefusal, repeatRefusal, firstOf, graphFrameRefusal, graphRecordsRefusal, graphRefusal, proposalFrameRefusal, proposedEdgesRefusal, proposalRefusal}
-use Rattle.files.specs.Theorems.{GraphFormed, ProposalFormed, RepeatsEarlierIs}
+use Rattle.files.specs.Theorems.{GraphFormed, ProposalFormed}
 use Rattle.files.proofs.First.{zero-or-not, number-same, stopped-before, passed-all}
 use Rattle.files.proofs.Repeats.{repeats}
 use Rattle.files.proofs.Whole.{edges-from-count, edge-from, task-count, sync-count, task-is, proposal-count}
@@ -197,14 +195,3 @@ graph-formed s none =
       output-below = output-inside s (frame .output-below);
       bound-fits = bound-small s;
     }
-
--- ── 8's test ──
-
-pub repeats-earlier-is : RepeatsEarlierIs
-unfolding repeatsEarlier
-repeats-earlier-is es j =
-    decides-iff
-    (λ t.
-    let r = any-out j (λ i. sameEdge (edgeIn es i) (edgeIn es j)) t in
-    (r .0, r .1, same-edge (edgeIn es (r .0)) (edgeIn es j) .if-true (r .2)))
-    (λ r. any-in j (λ i. sameEdge (edgeIn es i) (edgeIn es j)) (r .0) (r .1) (decides-true (same-edge (edgeIn es (r .0)) (edgeIn es j)) (r .2)))

@@ -10,7 +10,6 @@ use native.Mathlib.Omega.{arith}
 use Rattle.model.specs.Lists.{tabulate}
 use Rattle.model.proofs.Basics.{below-suc}
 use Rattle.model.proofs.Tests.{decided, eqb-decides}
-use Rattle.records.proofs.Fill.{tabulate-same}
 use Rattle.files.specs.declared.Refusal.{Refusal}
 use Rattle.files.specs.Refusals.{notRefused, refuse, choose, first}
 use Rattle.files.specs.Files.{firstOf}
@@ -96,10 +95,6 @@ at-place (suc n) f k below none some = go (below-suc below) (λ l. at-place n f 
     go (inr e) shorter =
         passed-all (tabulate n f) (f n ∷ []) (number-same (nowhere n f (λ i l. none i (subst (λ (m : ℕ). i < m) (sym e) l)))) ∙
         (stops (f n) [] (subst (λ (m : ℕ). f m .number ≢ 0) e some) ∙ ap f (sym e))
-
-pub same-checks : (n : ℕ) (f g : ℕ → Refusal) → ((i : ℕ) → i < n → f i ≡ g i) → firstOf n f ≡ firstOf n g
-unfolding firstOf first tabulate
-same-checks n f g same = ap first (tabulate-same n f g same)
 
 -- a search that ends at place k with a refusal
 pub stops-at :

@@ -1,4 +1,4 @@
--- The theorems about files, as statements. proofs/Accepted.antt proves them.
+-- The theorems about files, as statements. proofs/Accepted.antt and proofs/Repeats.antt prove them.
 use mathlib.Core.Path.{_≡_}
 use mathlib.Core.List.{List}
 use Prim.Native.Nat.{ℕ, _<_}

@@ -95,18 +95,13 @@ fn repeats_earlier<'a>(source: &'a [u8], sink: &'a [u8], delay: &'a [u8], j: usi
     let from = source[j];
     let to = sink[j];
     let turns = delay[j];
+    let mut found = false;
     let mut i = 0;
     while i < j {
-        if source[i] == from {
-            if sink[i] == to {
-                if delay[i] == turns {
-                    return true;
-                }
-            }
-        }
+        found = found | ((source[i] == from) & ((sink[i] == to) & (delay[i] == turns)));
         i += 1;
     }
-    false
+    found
 }
 
 // 8: the first edge that repeats an earlier one.

@@ -49,13 +49,6 @@ module _ {A : Type 0} where
   length-tabulate zero f = refl
   length-tabulate (suc n) f = length-append (tabulate n f) (f n ∷ []) ∙ (ap (λ (m : ℕ). m + 1) (length-tabulate n f) ∙ add-one n)
 
-  pub tabulate-same : (n : ℕ) (f g : ℕ → A) → ((i : ℕ) → i < n → f i ≡ g i) → tabulate n f ≡ tabulate n g
-  unfolding tabulate
-  tabulate-same zero f g same = refl
-  tabulate-same (suc n) f g same =
-      ap (λ (xs : List A). xs ++ (f n ∷ [])) (tabulate-same n f g (λ i l. same i (omega arith))) ∙
-      ap (λ (x : A). tabulate n g ++ (x ∷ [])) (same n (omega arith))
-
   pub getD-tabulate : (n : ℕ) (f : ℕ → A) (d : A) (i : ℕ) → i < n → getD (tabulate n f) i d ≡ f i
   unfolding tabulate
   getD-tabulate zero f d i l = absurd (not-suc-le-zero l)
