@@ -5,6 +5,13 @@ ghost use Prim.Native.Nat.{ℕ, _≤_};
 ghost use lib.ListN.{length};
 ghost use Rattle.layout.specs.Layout.{graphHeader, proposalHeader, bytesFor};
 ghost use Rattle.files.specs.Files.{graphHeaderRefusal, proposalHeaderRefusal, lengthRefusal, fillingRefusal, zerosRefusal, headerEndsRefusal, graphFrameRefusal, proposalFrameRefusal};
+use crate::COUNT_OUTSIDE;
+use crate::FEWER_BYTES;
+use crate::FILLING_BIT;
+use crate::HEADER_OUTSIDE;
+use crate::MORE_BYTES;
+use crate::OTHER_VERSION;
+use crate::PASSED;
 use crate::Refusal;
 use layout::GraphHeader;
 use layout::ProposalHeader;
@@ -15,27 +22,15 @@ fn graph_header_refusal(bytes: &[u8], header: GraphHeader) -> Refusal
     ensures { λ r. ⌜ r ≡ graphHeaderRefusal (now (bytes .entry)) ⌝ }
 {
     if bytes.len() < 7 {
-        return Refusal {
-            number: 1,
-            place: 0,
-        };
+        return FEWER_BYTES;
     }
     if header.version != 1 {
-        return Refusal {
-            number: 2,
-            place: 0,
-        };
+        return OTHER_VERSION;
     }
     if header.tasks < 2 || header.tasks > 64 || header.edges > 256 {
-        return Refusal {
-            number: 3,
-            place: 0,
-        };
+        return COUNT_OUTSIDE;
     }
-    Refusal {
-        number: 0,
-        place: 0,
-    }
+    PASSED
 }
 
 // Header 1, 2, 3 of a proposal.
@@ -44,27 +39,15 @@ fn proposal_header_refusal(bytes: &[u8], header: ProposalHeader) -> Refusal
     ensures { λ r. ⌜ r ≡ proposalHeaderRefusal (now (bytes .entry)) ⌝ }
 {
     if bytes.len() < 2 {
-        return Refusal {
-            number: 1,
-            place: 0,
-        };
+        return FEWER_BYTES;
     }
     if header.version != 1 {
-        return Refusal {
-            number: 2,
-            place: 0,
-        };
+        return OTHER_VERSION;
     }
     if header.edges > 256 {
-        return Refusal {
-            number: 3,
-            place: 0,
-        };
+        return COUNT_OUTSIDE;
     }
-    Refusal {
-        number: 0,
-        place: 0,
-    }
+    PASSED
 }
 
 // Length 1 or 4, where the counts need so many bits.
@@ -74,21 +57,12 @@ fn length_refusal(bytes: &[u8], used: usize) -> Refusal
 {
     let needed = (used + 7) >> 3;
     if bytes.len() < needed {
-        return Refusal {
-            number: 1,
-            place: 0,
-        };
+        return FEWER_BYTES;
     }
     if bytes.len() > needed {
-        return Refusal {
-            number: 4,
-            place: 0,
-        };
+        return MORE_BYTES;
     }
-    Refusal {
-        number: 0,
-        place: 0,
-    }
+    PASSED
 }
 
 // Filling 4, of a file that has the length that its counts need.
@@ -99,15 +73,9 @@ fn filling_refusal(bytes: &[u8], used: usize) -> Refusal
 {
     let left = 8 * bytes.len() - used;
     if bits::field_at(bytes, used, left) != 0 {
-        return Refusal {
-            number: 4,
-            place: 0,
-        };
+        return FILLING_BIT;
     }
-    Refusal {
-        number: 0,
-        place: 0,
-    }
+    PASSED
 }
 
 // The two zero bits of a proposal, 4.
@@ -115,15 +83,9 @@ fn zeros_refusal(header: ProposalHeader) -> Refusal
     ensures { λ r. ⌜ ((s : List ℕ) → header ≡ proposalHeader s → r ≡ zerosRefusal s) ⌝ }
 {
     if header.zeros != 0 {
-        return Refusal {
-            number: 4,
-            place: 0,
-        };
+        return FILLING_BIT;
     }
-    Refusal {
-        number: 0,
-        place: 0,
-    }
+    PASSED
 }
 
 // Header 6: latency input and output.
@@ -131,15 +93,9 @@ fn header_ends_refusal(header: GraphHeader) -> Refusal
     ensures { λ r. ⌜ ((s : List ℕ) → header ≡ graphHeader s → r ≡ headerEndsRefusal s) ⌝ }
 {
     if header.input >= header.tasks || header.output >= header.tasks {
-        return Refusal {
-            number: 6,
-            place: 0,
-        };
+        return HEADER_OUTSIDE;
     }
-    Refusal {
-        number: 0,
-        place: 0,
-    }
+    PASSED
 }
 
 // All that is judged of a graph file before its tasks and edges.

@@ -15,3 +15,40 @@ pub struct Refusal {
     pub number: u32,
     pub place: u32,
 }
+
+// Nothing is refused.
+const PASSED: Refusal = Refusal {
+    number: 0,
+    place: 0,
+};
+
+// Refusals of a file as a whole, and of its header.
+const FEWER_BYTES: Refusal = Refusal {
+    number: 1,
+    place: 0,
+};
+
+const OTHER_VERSION: Refusal = Refusal {
+    number: 2,
+    place: 0,
+};
+
+const COUNT_OUTSIDE: Refusal = Refusal {
+    number: 3,
+    place: 0,
+};
+
+const MORE_BYTES: Refusal = Refusal {
+    number: 4,
+    place: 0,
+};
+
+const FILLING_BIT: Refusal = Refusal {
+    number: 4,
+    place: 0,
+};
+
+const HEADER_OUTSIDE: Refusal = Refusal {
+    number: 6,
+    place: 0,
+};
