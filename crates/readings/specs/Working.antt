@@ -1,5 +1,6 @@
 -- The working form of what a file holds: lists of a fixed length, 0 past the end. Of a graph, the edges that order it stand in one list, processor
 -- edges first (entry v is the one out of task v), then those of the file. Of a refused file, number and place, and 0 elsewhere.
+use mathlib.Core.Path.{_≡_}
 use mathlib.Core.List.{List}
 use Prim.Native.Nat.{ℕ, zero, suc}
 use lib.ListN.{length}
@@ -27,6 +28,14 @@ workingGraph g = record {
   sink = tabulate 320 (λ i. edgeIn (edges g) i .sink);
   delay = tabulate 320 (λ i. edgeIn (edges g) i .delay);
 }
+
+-- five lists are those of a graph's working form
+pub record GraphLists (g : Graph) (processor time source sink delay : List ℕ) : Type 0 where
+  pub processors : processor ≡ workingGraph g .processor
+  pub times : time ≡ workingGraph g .time
+  pub sources : source ≡ workingGraph g .source
+  pub sinks : sink ≡ workingGraph g .sink
+  pub delays : delay ≡ workingGraph g .delay
 
 unfoldable pub refusedGraph : Refusal → GraphReading
 refusedGraph r = record {

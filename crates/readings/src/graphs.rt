@@ -6,7 +6,7 @@ ghost use Rattle.model.specs.Graph.{Graph};
 ghost use Rattle.layout.specs.Layout.{graphHeader};
 ghost use Rattle.files.specs.Files.{graphOf, graphRecordsRefusal};
 ghost use Rattle.records.specs.Columns.{ProcessorsOf, TimesOf, SourcesOf, SinksOf, DelaysOf, zeros};
-ghost use Rattle.readings.specs.Working.{workingGraph, refusedGraph, graphReading};
+ghost use Rattle.readings.specs.Working.{GraphLists, refusedGraph, graphReading};
 use crate::GraphReading;
 use files::Refusal;
 use files::edges_refusal;
@@ -62,7 +62,30 @@ fn records_refusal<'a>(
     repeats_refusal(source, sink, delay)
 }
 
-// The tasks and edges of a file whose header passed, into lists of zeros, and what is judged of them.
+// The tasks and edges of a file whose header passed, into lists of zeros.
+fn graph_lists<'a>(
+    bytes: &[u8],
+    header: GraphHeader,
+    processor: &'a mut [u8],
+    time: &'a mut [u16],
+    source: &'a mut [u8],
+    sink: &'a mut [u8],
+    delay: &'a mut [u8],
+)
+    requires { ⌜ header ≡ graphHeader (now bytes) ⌝ }
+    requires { ⌜ (header .tasks ≤ 64) × (header .edges ≤ 256) ⌝ }
+    requires { ⌜ (now processor ≡ zeros 64) × (now time ≡ zeros 64) ⌝ }
+    requires { ⌜ (now source ≡ zeros 320) × (now sink ≡ zeros 320) × (now delay ≡ zeros 320) ⌝ }
+    ensures { λ _. ⌜ GraphLists (graphOf (now (bytes .entry))) (now (processor .exit)) (now (time .exit)) (now (source .exit)) (now (sink .exit)) (now (delay .exit)) ⌝ }
+{
+    let tasks = header.tasks as usize;
+    let end = tasks + header.edges as usize;
+    tasks_into(bytes, tasks, processor, time);
+    processor_edges_into(tasks, processor, source, sink, delay);
+    edges_into(bytes, 56 + 20 * tasks, tasks, end, source, sink, delay);
+}
+
+// The same, and what is judged of the tasks and edges.
 fn graph_records<'a>(
     bytes: &[u8],
     header: GraphHeader,
@@ -77,17 +100,11 @@ fn graph_records<'a>(
     requires { ⌜ (now processor ≡ zeros 64) × (now time ≡ zeros 64) ⌝ }
     requires { ⌜ (now source ≡ zeros 320) × (now sink ≡ zeros 320) × (now delay ≡ zeros 320) ⌝ }
     ensures refusal { λ r. ⌜ r ≡ graphRecordsRefusal (graphOf (now (bytes .entry))) ⌝ }
-    ensures processor { λ _. ⌜ now (processor .exit) ≡ workingGraph (graphOf (now (bytes .entry))) .processor ⌝ }
-    ensures time { λ _. ⌜ now (time .exit) ≡ workingGraph (graphOf (now (bytes .entry))) .time ⌝ }
-    ensures source { λ _. ⌜ now (source .exit) ≡ workingGraph (graphOf (now (bytes .entry))) .source ⌝ }
-    ensures sink { λ _. ⌜ now (sink .exit) ≡ workingGraph (graphOf (now (bytes .entry))) .sink ⌝ }
-    ensures delay { λ _. ⌜ now (delay .exit) ≡ workingGraph (graphOf (now (bytes .entry))) .delay ⌝ }
+    ensures lists { λ _. ⌜ GraphLists (graphOf (now (bytes .entry))) (now (processor .exit)) (now (time .exit)) (now (source .exit)) (now (sink .exit)) (now (delay .exit)) ⌝ }
 {
     let tasks = header.tasks as usize;
     let end = tasks + header.edges as usize;
-    tasks_into(bytes, tasks, processor, time);
-    processor_edges_into(tasks, processor, source, sink, delay);
-    edges_into(bytes, 56 + 20 * tasks, tasks, end, source, sink, delay);
+    graph_lists(bytes, header, processor, time, source, sink, delay);
     records_refusal(
         &processor[0..tasks],
         &time[0..tasks],

@@ -78,6 +78,7 @@ returns-3 c =
     let frame = c .before .before .before .before .before .before .before .before .before .before .before .before .before .before .before .before .before .before .before .before .before .graph-frame-refusal .ensures in
     let passed = c .before .before .before .before .before .before .before .before .before .before .before .before .before .before .before .before .before .before .if1 .left in
     let said = c .before .before .before .before .before .before .before .graph-records .ensures in
+    let lists = said .1 in
     let none : c .before .before .before .before .before .before .before .graph-records .result ≡ notRefused = graph-passed s frame passed (said .0) (c .if2 .left) in
     let read : workingGraph (graphOf s) ≡ graphReading s = sym (graph-read s frame passed (said .0) (c .if2 .left)) in
     _∙_ {b = workingGraph (graphOf s)}
@@ -89,11 +90,11 @@ returns-3 c =
       input = ap (λ (h : GraphHeader). h .input) header i;
       output = ap (λ (h : GraphHeader). h .output) header i;
       bound = ap (λ (h : GraphHeader). h .bound) header i;
-      processor = said .1 .0 i;
-      time = said .1 .1 .0 i;
-      source = said .1 .1 .1 .0 i;
-      sink = said .1 .1 .1 .1 .0 i;
-      delay = said .1 .1 .1 .1 .1 i;
+      processor = lists .processors i;
+      time = lists .times i;
+      source = lists .sources i;
+      sink = lists .sinks i;
+      delay = lists .delays i;
     })
     read
 
