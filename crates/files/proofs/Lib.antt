@@ -1,8 +1,6 @@
-pub mod Whole
+-- The proofs that other crates may cite.
 pub mod First
 pub mod Single
 pub mod Repeats
 pub mod Frame
-pub mod Passed
-pub mod Accepted
 pub mod Example

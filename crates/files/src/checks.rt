@@ -6,13 +6,13 @@ ghost use Prim.Native.Nat.{_+_, _≤_, _<_};
 ghost use lib.ListN.{length};
 ghost use Rattle.model.specs.Tasks.{Task, Edge};
 ghost use Rattle.model.specs.Graph.{Graph};
-ghost use Rattle.files.specs.Files.{firstOf, timeRefusal, endsRefusal, edgeRefusal, repeatRefusal, repeatsEarlier};
+ghost use Rattle.files.specs.Files.{firstOf, timeRefusal, endsRefusal, edgeRefusal, repeatRefusal, repeatsEarlier, graphRecordsRefusal, proposedEdgesRefusal};
 ghost use Rattle.records.specs.Columns.{ProcessorsOf, TimesOf, SourcesOf, SinksOf, DelaysOf};
 use crate::PASSED;
 use crate::Refusal;
 
 // 5: the first task whose time is 0.
-pub fn times_refusal(time: &[u16]) -> Refusal
+fn times_refusal(time: &[u16]) -> Refusal
     requires { ⌜ length (now time) ≤ 64 ⌝ }
     ensures { λ r. ⌜ ((g : Graph) → TimesOf (g .tasks) (now (time .entry)) → r ≡ firstOf (length (g .tasks)) (timeRefusal g)) ⌝ }
 {
@@ -30,7 +30,7 @@ pub fn times_refusal(time: &[u16]) -> Refusal
 }
 
 // 6: the first edge with an end that is not below the number of tasks.
-pub fn ends_refusal<'a>(tasks: usize, source: &'a [u8], sink: &'a [u8]) -> Refusal
+fn ends_refusal<'a>(tasks: usize, source: &'a [u8], sink: &'a [u8]) -> Refusal
     requires { ⌜ length (now source) ≤ 256 ⌝ }
     requires { ⌜ length (now sink) ≡ length (now source) ⌝ }
     ensures { λ r. ⌜ ((es : List Edge) → SourcesOf es (now (source .entry)) → SinksOf es (now (sink .entry)) → r ≡ firstOf (length es) (endsRefusal tasks es)) ⌝ }
@@ -51,7 +51,7 @@ pub fn ends_refusal<'a>(tasks: usize, source: &'a [u8], sink: &'a [u8]) -> Refus
 }
 
 // 6 then 7: the first edge with an end that is not below the number of tasks, or with both ends on one processor.
-pub fn edges_refusal<'a>(processor: &'a [u8], source: &'a [u8], sink: &'a [u8]) -> Refusal
+fn edges_refusal<'a>(processor: &'a [u8], source: &'a [u8], sink: &'a [u8]) -> Refusal
     requires { ⌜ length (now source) ≤ 256 ⌝ }
     requires { ⌜ length (now sink) ≡ length (now source) ⌝ }
     ensures { λ r. ⌜ ((ts : List Task) (es : List Edge) → ProcessorsOf ts (now (processor .entry)) → SourcesOf es (now (source .entry)) → SinksOf es (now (sink .entry)) → r ≡ firstOf (length es) (edgeRefusal ts es)) ⌝ }
@@ -97,7 +97,7 @@ fn repeats_earlier<'a>(source: &'a [u8], sink: &'a [u8], delay: &'a [u8], j: usi
 }
 
 // 8: the first edge that repeats an earlier one.
-pub fn repeats_refusal<'a>(source: &'a [u8], sink: &'a [u8], delay: &'a [u8]) -> Refusal
+fn repeats_refusal<'a>(source: &'a [u8], sink: &'a [u8], delay: &'a [u8]) -> Refusal
     requires { ⌜ length (now source) ≤ 256 ⌝ }
     requires { ⌜ length (now sink) ≡ length (now source) ⌝ }
     requires { ⌜ length (now delay) ≡ length (now source) ⌝ }
@@ -114,4 +114,48 @@ pub fn repeats_refusal<'a>(source: &'a [u8], sink: &'a [u8], delay: &'a [u8]) ->
         j += 1;
     }
     PASSED
+}
+
+// "tasks 5; each edge 6 then 7; then 8" of a graph.
+pub fn records_refusal<'a>(
+    processor: &'a [u8],
+    time: &'a [u16],
+    source: &'a [u8],
+    sink: &'a [u8],
+    delay: &'a [u8],
+) -> Refusal
+    requires { ⌜ length (now time) ≤ 64 ⌝ }
+    requires { ⌜ length (now source) ≤ 256 ⌝ }
+    requires { ⌜ length (now sink) ≡ length (now source) ⌝ }
+    requires { ⌜ length (now delay) ≡ length (now source) ⌝ }
+    ensures { λ r. ⌜ ((g : Graph) → ProcessorsOf (g .tasks) (now (processor .entry)) → TimesOf (g .tasks) (now (time .entry)) → SourcesOf (g .syncs) (now (source .entry)) → SinksOf (g .syncs) (now (sink .entry)) → DelaysOf (g .syncs) (now (delay .entry)) → r ≡ graphRecordsRefusal g) ⌝ }
+{
+    let times = times_refusal(time);
+    if times.number != 0 {
+        return times;
+    }
+    let edges = edges_refusal(processor, source, sink);
+    if edges.number != 0 {
+        return edges;
+    }
+    repeats_refusal(source, sink, delay)
+}
+
+// "each edge 6; then 8" of proposed edges.
+pub fn proposed_refusal<'a>(
+    tasks: usize,
+    source: &'a [u8],
+    sink: &'a [u8],
+    delay: &'a [u8],
+) -> Refusal
+    requires { ⌜ length (now source) ≤ 256 ⌝ }
+    requires { ⌜ length (now sink) ≡ length (now source) ⌝ }
+    requires { ⌜ length (now delay) ≡ length (now source) ⌝ }
+    ensures { λ r. ⌜ ((es : List Edge) → SourcesOf es (now (source .entry)) → SinksOf es (now (sink .entry)) → DelaysOf es (now (delay .entry)) → r ≡ proposedEdgesRefusal tasks es) ⌝ }
+{
+    let ends = ends_refusal(tasks, source, sink);
+    if ends.number != 0 {
+        return ends;
+    }
+    repeats_refusal(source, sink, delay)
 }

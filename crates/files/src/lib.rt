@@ -2,10 +2,8 @@
 mod checks;
 mod headers;
 
-pub use checks::edges_refusal;
-pub use checks::ends_refusal;
-pub use checks::repeats_refusal;
-pub use checks::times_refusal;
+pub use checks::proposed_refusal;
+pub use checks::records_refusal;
 pub use headers::graph_frame_refusal;
 pub use headers::proposal_frame_refusal;
 

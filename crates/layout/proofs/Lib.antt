@@ -1,2 +1,3 @@
+-- The proofs that other crates may cite.
 pub mod Records
 pub mod Steps

@@ -14,7 +14,7 @@ use Rattle.files.specs.Files.{graphOf, edgeIn}
 use Rattle.records.specs.Columns.{ProcessorsOf, TimesOf, SourcesOf, SinksOf, DelaysOf}
 use Rattle.readings.specs.Working.{workingGraph, GraphLists}
 use Rattle.records.proofs.Parts.{within-list, column-of-front}
-use Rattle.files.proofs.Whole.{header-tasks, sync-column}
+use Rattle.readings.proofs.Whole.{header-tasks, sync-column}
 
 module _ (s : List ℕ) {h : GraphHeader} (is : h ≡ graphHeader s) (few : (h .tasks ≤ 64) × (h .edges ≤ 256))
     {processor time source sink delay : List ℕ} (lists : GraphLists (graphOf s) processor time source sink delay) where

@@ -13,7 +13,7 @@ use Rattle.files.specs.Files.{graphOf, proposalOf, edgeIn, graphRefusal, propos
 use Rattle.readings.specs.Working.{workingGraph, refusedGraph, graphAnswer, graphReading, workingProposal, refusedProposal, proposalAnswer, proposalReading}
 use Rattle.readings.specs.Theorems.{GraphRefusalGiven, GraphGiven, ProposalRefusalGiven, ProposalGiven, WorkingHolds, WorkingEdgesHold}
 use Rattle.files.proofs.First.{zero-or-not, none-refused}
-use Rattle.files.proofs.Whole.{edges-count}
+use Rattle.readings.proofs.Whole.{edges-count}
 use Rattle.readings.proofs.Answers.{if-passed, if-refused}
 
 pub working-holds : WorkingHolds

@@ -1,13 +1,22 @@
--- The theorems about readings, as statements. proofs/Held.antt proves them.
+-- The theorems about readings, as statements. proofs/Accepted.antt proves the first two, proofs/Held.antt the others.
 use mathlib.Core.Path.{_≡_}
 use mathlib.Core.List.{List}
 use Prim.Native.Nat.{ℕ, _+_, _≤_}
 use lib.ListN.{length, take}
 use Rattle.model.specs.Tasks.{Edge}
-use Rattle.model.specs.Graph.{Graph, count, edges}
+use Rattle.model.specs.Graph.{Graph, WellFormed, WellFormedEdges, count, edges}
 use Rattle.records.specs.Columns.{ProcessorsOf, TimesOf, SourcesOf, SinksOf, DelaysOf}
 use Rattle.files.specs.Files.{graphOf, proposalOf, graphRefusal, proposalRefusal}
 use Rattle.readings.specs.Working.{workingGraph, workingProposal, graphReading, proposalReading}
+
+-- A graph file of which nothing is refused holds a graph of 2 to 64 tasks on processors 0 to 15, times from 1 to 65,535, at most 256 edges between
+-- tasks of different processors, of delay 0 to 255, no two equal, and its latency input and output are tasks.
+abbrev pub GraphFormed : Type 0
+GraphFormed = (s : List ℕ) → graphRefusal s .number ≡ 0 → WellFormed (graphOf s)
+
+-- A proposal file of which nothing is refused beside a graph of n tasks holds at most 256 edges between them, of delay 0 to 255, no two equal.
+abbrev pub ProposalFormed : Type 0
+ProposalFormed = (n : ℕ) (s : List ℕ) → proposalRefusal n s .number ≡ 0 → WellFormedEdges n (proposalOf s)
 
 -- What is handed over carries the refusal, and the graph or the edges if there is none.
 abbrev pub GraphRefusalGiven : Type 0

@@ -1,18 +1,14 @@
 // Reading a graph file.
 ghost use mathlib.Core.Path.{_≡_};
 ghost use Prim.Native.Nat.{_≤_};
-ghost use lib.ListN.{length};
-ghost use Rattle.model.specs.Graph.{Graph};
 ghost use Rattle.layout.specs.Layout.{graphHeader};
 ghost use Rattle.files.specs.Files.{graphOf, graphRecordsRefusal};
-ghost use Rattle.records.specs.Columns.{ProcessorsOf, TimesOf, SourcesOf, SinksOf, DelaysOf, zeros};
+ghost use Rattle.records.specs.Columns.{zeros};
 ghost use Rattle.readings.specs.Working.{GraphLists, refusedGraph, graphReading};
 use crate::GraphReading;
 use files::Refusal;
-use files::edges_refusal;
 use files::graph_frame_refusal;
-use files::repeats_refusal;
-use files::times_refusal;
+use files::records_refusal;
 use layout::GraphHeader;
 use records::edges_into;
 use records::processor_edges_into;
@@ -35,31 +31,6 @@ fn refused_graph(refusal: Refusal) -> GraphReading
         sink: [0; 320],
         delay: [0; 320],
     }
-}
-
-// Tasks 5; each edge 6 then 7; then 8.
-fn records_refusal<'a>(
-    processor: &'a [u8],
-    time: &'a [u16],
-    source: &'a [u8],
-    sink: &'a [u8],
-    delay: &'a [u8],
-) -> Refusal
-    requires { ⌜ length (now time) ≤ 64 ⌝ }
-    requires { ⌜ length (now source) ≤ 256 ⌝ }
-    requires { ⌜ length (now sink) ≡ length (now source) ⌝ }
-    requires { ⌜ length (now delay) ≡ length (now source) ⌝ }
-    ensures { λ r. ⌜ ((g : Graph) → ProcessorsOf (g .tasks) (now (processor .entry)) → TimesOf (g .tasks) (now (time .entry)) → SourcesOf (g .syncs) (now (source .entry)) → SinksOf (g .syncs) (now (sink .entry)) → DelaysOf (g .syncs) (now (delay .entry)) → r ≡ graphRecordsRefusal g) ⌝ }
-{
-    let times = times_refusal(time);
-    if times.number != 0 {
-        return times;
-    }
-    let edges = edges_refusal(processor, source, sink);
-    if edges.number != 0 {
-        return edges;
-    }
-    repeats_refusal(source, sink, delay)
 }
 
 // The tasks and edges of a file whose header passed, into lists of zeros.

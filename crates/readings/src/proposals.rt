@@ -1,18 +1,14 @@
 // Reading a proposal file.
 ghost use mathlib.Core.Path.{_≡_};
-ghost use mathlib.Core.List.{List};
 ghost use Prim.Native.Nat.{_≤_};
-ghost use lib.ListN.{length};
-ghost use Rattle.model.specs.Tasks.{Edge};
 ghost use Rattle.layout.specs.Layout.{proposalHeader};
 ghost use Rattle.files.specs.Files.{proposalOf, proposedEdgesRefusal};
-ghost use Rattle.records.specs.Columns.{SourcesOf, SinksOf, DelaysOf, zeros};
+ghost use Rattle.records.specs.Columns.{zeros};
 ghost use Rattle.readings.specs.Working.{workingProposal, refusedProposal, proposalReading};
 use crate::ProposalReading;
 use files::Refusal;
-use files::ends_refusal;
 use files::proposal_frame_refusal;
-use files::repeats_refusal;
+use files::proposed_refusal;
 use layout::ProposalHeader;
 use records::edges_into;
 
@@ -27,20 +23,6 @@ fn refused_proposal(refusal: Refusal) -> ProposalReading
         sink: [0; 256],
         delay: [0; 256],
     }
-}
-
-// Each edge 6; then 8.
-fn proposed_refusal<'a>(tasks: usize, source: &'a [u8], sink: &'a [u8], delay: &'a [u8]) -> Refusal
-    requires { ⌜ length (now source) ≤ 256 ⌝ }
-    requires { ⌜ length (now sink) ≡ length (now source) ⌝ }
-    requires { ⌜ length (now delay) ≡ length (now source) ⌝ }
-    ensures { λ r. ⌜ ((es : List Edge) → SourcesOf es (now (source .entry)) → SinksOf es (now (sink .entry)) → DelaysOf es (now (delay .entry)) → r ≡ proposedEdgesRefusal tasks es) ⌝ }
-{
-    let ends = ends_refusal(tasks, source, sink);
-    if ends.number != 0 {
-        return ends;
-    }
-    repeats_refusal(source, sink, delay)
 }
 
 // The edges of a file whose header passed, into lists of zeros, and what is judged of them.

@@ -1,2 +1,3 @@
+-- The proofs that other crates may cite.
 pub mod Fill
 pub mod Parts

@@ -11,7 +11,7 @@ use Rattle.files.specs.Files.{graphOf}
 use Rattle.records.specs.Columns.{zeros, withPart}
 use Rattle.readings.specs.Working.{workingGraph}
 use Rattle.records.proofs.Parts.{part-length, zeros-length, zeros-room, within-list, column-of-take}
-use Rattle.files.proofs.Whole.{header-tasks, task-list, edge-list}
+use Rattle.readings.proofs.Whole.{header-tasks, task-list, edge-list}
 use borrow.Author.Needs.{needs}
 use Rattle.readings.proofs.graphs.graph_lists.Statement.{statement}
 use Rattle.readings.proofs.graphs.graph_lists.Tie as tie

@@ -3,7 +3,7 @@ use mathlib.Core.Path.{sym, _∙_, subst}
 use Prim.Native.Nat.{ℕ, _≤_}
 use Rattle.files.specs.Files.{graphOf}
 use Rattle.readings.specs.Working.{workingGraph}
-use Rattle.files.proofs.Whole.{header-tasks, header-edges}
+use Rattle.readings.proofs.Whole.{header-tasks, header-edges}
 use Rattle.readings.proofs.Columns.{processor-room, time-room, edge-room, processors-part, times-part, sources-part, sinks-part, delays-part}
 use borrow.Author.Needs.{needs}
 use Rattle.readings.proofs.graphs.graph_records.Statement.{statement}

@@ -9,8 +9,8 @@ use Rattle.files.specs.Refusals.{notRefused}
 use Rattle.files.specs.Files.{graphOf}
 use Rattle.readings.specs.Working.{workingGraph, refusedGraph, graphReading}
 use Rattle.files.proofs.First.{number-same}
-use Rattle.files.proofs.Whole.{header-tasks, header-edges}
-use Rattle.files.proofs.Passed.{graph-frame-passed}
+use Rattle.readings.proofs.Whole.{header-tasks, header-edges}
+use Rattle.readings.proofs.Passed.{graph-frame-passed}
 use Rattle.readings.proofs.Answers.{graph-ends, graph-stops, graph-passed, graph-read}
 use borrow.Author.Needs.{needs}
 use Rattle.readings.proofs.graphs.read_graph.Statement.{statement}

@@ -7,7 +7,7 @@ use Rattle.layout.specs.declared.ProposalHeader.{ProposalHeader}
 use Rattle.files.specs.Files.{proposalOf, edgeIn}
 use Rattle.readings.specs.Working.{workingProposal}
 use Rattle.records.proofs.Parts.{zeros-room, within-list, column-of-front}
-use Rattle.files.proofs.Whole.{proposal-list, proposal-count}
+use Rattle.readings.proofs.Whole.{proposal-list, proposal-count}
 use borrow.Author.Needs.{needs}
 use Rattle.readings.proofs.proposals.proposal_records.Statement.{statement}
 use Rattle.readings.proofs.proposals.proposal_records.Tie as tie

@@ -8,8 +8,8 @@ use Rattle.files.specs.Refusals.{notRefused}
 use Rattle.files.specs.Files.{proposalOf}
 use Rattle.readings.specs.Working.{workingProposal, refusedProposal, proposalReading}
 use Rattle.files.proofs.First.{number-same}
-use Rattle.files.proofs.Whole.{proposal-count}
-use Rattle.files.proofs.Passed.{proposal-frame-passed}
+use Rattle.readings.proofs.Whole.{proposal-count}
+use Rattle.readings.proofs.Passed.{proposal-frame-passed}
 use Rattle.readings.proofs.Answers.{proposal-ends, proposal-stops, proposal-passed, proposal-read}
 use borrow.Author.Needs.{needs}
 use Rattle.readings.proofs.proposals.read_proposal.Statement.{statement}

@@ -17,14 +17,14 @@ use Rattle.model.specs.Graph.{Graph, timeOf}
 use Rattle.model.proofs.Basics.{below-suc, member-place}
 use Rattle.layout.specs.Layout.{graphHeader, graphHeaderBits, proposalHeaderBits, recordStart, edgeAt}
 use Rattle.layout.proofs.Records.{processor-below, time-below, delay-below}
 use Rattle.files.specs.declared.Refusal.{Refusal}
 use Rattle.files.specs.Refusals.{refuse, first}
 use Rattle.files.specs.Files.{taskCount, edgeCount, edgesFrom, graphOf, proposalOf, edgeIn, endOutside, withinProcessor, repeatsEarlier, timeRefusal, endsRefusal, edgeRefusal, repeatRefusal, firstOf, graphFrameRefusal, graphRecordsRefusal, graphRefusal, proposalFrameRefusal, proposedEdgesRefusal, proposalRefusal}
-use Rattle.files.specs.Theorems.{GraphFormed, ProposalFormed}
+use Rattle.readings.specs.Theorems.{GraphFormed, ProposalFormed}
 use Rattle.files.proofs.First.{zero-or-not, number-same, stopped-before, passed-all}
 use Rattle.files.proofs.Repeats.{repeats}
-use Rattle.files.proofs.Whole.{edges-from-count, edge-from, task-count, sync-count, task-is, proposal-count}
-use Rattle.files.proofs.Passed.{head-passed, tail-passed, check-passed, or-left-false, or-right-false, graph-frame-passed, proposal-frame-passed}
+use Rattle.readings.proofs.Whole.{edges-from-count, edge-from, task-count, sync-count, task-is, proposal-count}
+use Rattle.readings.proofs.Passed.{head-passed, tail-passed, check-passed, or-left-false, or-right-false, graph-frame-passed, proposal-frame-passed}
 
 -- ── Every place passed ──
 
@@ -98,9 +98,8 @@ delays-small s at n =
 
 pub proposal-formed : ProposalFormed
 unfolding proposalRefusal proposedEdgesRefusal proposalOf endsRefusal
-proposal-formed n s none =
+proposal-formed n s passed =
     let es : List Edge = proposalOf s in
-    let passed : proposalRefusal n s .number ≡ 0 = number-same none in
     let frame = proposal-frame-passed s (head-passed (proposalFrameRefusal s) _ passed) in
     let records = head-passed (proposedEdgesRefusal n es) _ (tail-passed (proposalFrameRefusal s) _ passed) in
     let ends = head-passed (firstOf (length es) (endsRefusal n es)) _ records in
@@ -166,11 +165,10 @@ bound-small s = field-below s 33 23
 
 pub graph-formed : GraphFormed
 unfolding graphRefusal graphRecordsRefusal
-graph-formed s none =
+graph-formed s passed =
     let g : Graph = graphOf s in
     let ts : List Task = graphOf s .tasks in
     let es : List Edge = graphOf s .syncs in
-    let passed : graphRefusal s .number ≡ 0 = number-same none in
     let frame = graph-frame-passed s (head-passed (graphFrameRefusal s) _ passed) in
     let records = head-passed (graphRecordsRefusal g) _ (tail-passed (graphFrameRefusal s) _ passed) in
     let times = head-passed (firstOf (length ts) (timeRefusal g)) _ records in

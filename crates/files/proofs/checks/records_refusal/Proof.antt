@@ -1,12 +1,12 @@
--- `readings::graphs::records_refusal` meets its contract: a check that refuses ends the chain, one that passes is left out of it.
+-- `files::checks::records_refusal` meets its contract: a check that refuses ends the chain, one that passes is left out of it.
 use mathlib.Core.Path.{sym, _∙_}
 use lib.ListN.{length}
 use Rattle.model.specs.Lists.{tabulate}
 use Rattle.files.specs.Files.{firstOf, graphRecordsRefusal, repeatRefusal}
 use Rattle.files.proofs.First.{ends-with, goes-on, last-answer}
 use borrow.Author.Needs.{needs}
-use Rattle.readings.proofs.graphs.records_refusal.Statement.{statement}
-use Rattle.readings.proofs.graphs.records_refusal.Tie as tie
+use Rattle.files.proofs.checks.records_refusal.Statement.{statement}
+use Rattle.files.proofs.checks.records_refusal.Tie as tie
 
 times-refusal-requires : tie.Need-times-refusal-requires
 times-refusal-requires c κs = search needs
