@@ -1,5 +1,5 @@
--- Laws of fields: a field is below the power of its width, splits at any place, and is a byte where it covers one, each by
--- induction on the width. By splits, whole bytes grow by the next byte, and a field is cut out of a longer one.
+-- Laws of fields: a field is below the power of its width, splits at any place, is a byte where it covers one, and is 0 exactly if
+-- each bit is, each by induction on the width. By splits, whole bytes grow by the next byte, and a field is cut out of a longer one.
 use mathlib.Core.Path.{_≡_, refl, sym, ap, _∙_}
 use mathlib.Core.Logic.{_⊎_, inl, inr}
 use mathlib.Core.List.{List}

@@ -1,4 +1,4 @@
--- What the checks of header, length and filling say, test by test.
+-- What the checks of header, length and filling say: each test is true or false by an order of two numbers, and the first that is true decides.
 use mathlib.Core.Path.{_≡_, sym, ap, _∙_}
 use mathlib.Core.Logic.{_⊎_, inl, inr, _≢_}
 use mathlib.Core.Bool.{Bool, true, false, not, _||_}
@@ -38,15 +38,15 @@ countsOutside tasks edges = ltb tasks 2 || ltb 64 tasks || ltb 256 edges
 pub too-few-tasks : (t e : ℕ) → t < 2 → countsOutside t e ≡ true
 too-few-tasks t e l = ap (λ (b : Bool). b || ltb 64 t || ltb 256 e) (lt-ltb t 2 l)
 
-pub too-many-tasks : (t e : ℕ) → ltb 64 t ≡ true → countsOutside t e ≡ true
-too-many-tasks t e l = ap (λ (b : Bool). b || ltb 256 e) (or-true (ltb t 2) l)
+pub too-many-tasks : (t e : ℕ) → 64 < t → countsOutside t e ≡ true
+too-many-tasks t e l = ap (λ (b : Bool). b || ltb 256 e) (or-true (ltb t 2) (lt-ltb 64 t l))
 
-pub too-many-edges : (t e : ℕ) → ltb 256 e ≡ true → countsOutside t e ≡ true
-too-many-edges t e l = or-true (ltb t 2 || ltb 64 t) l
+pub too-many-edges : (t e : ℕ) → 256 < e → countsOutside t e ≡ true
+too-many-edges t e l = or-true (ltb t 2 || ltb 64 t) (lt-ltb 256 e l)
 
-pub counts-inside : (t e : ℕ) → 2 ≤ t → ltb 64 t ≡ false → ltb 256 e ≡ false → countsOutside t e ≡ false
+pub counts-inside : (t e : ℕ) → 2 ≤ t → t ≤ 64 → e ≤ 256 → countsOutside t e ≡ false
 counts-inside t e l m k =
-    ap (λ (b : Bool). b || ltb 64 t || ltb 256 e) (le-ltb t 2 l) ∙ (ap (λ (b : Bool). b || ltb 256 e) m ∙ k)
+    ap (λ (b : Bool). b || ltb 64 t || ltb 256 e) (le-ltb t 2 l) ∙ (ap (λ (b : Bool). b || ltb 256 e) (le-ltb 64 t m) ∙ le-ltb 256 e k)
 
 module _ (s : List ℕ) {h : GraphHeader} (is : h ≡ graphHeader s) where
   version-of : h .version ≡ graphHeader s .version
@@ -176,7 +176,7 @@ length-exact s used passed = go (order (length s) (bytesFor used)) (order (bytes
         let bad : _≡_ {A = ℕ} 1 0 = number-same (sym (too-short s used l)) ∙ passed in
         absurd (omega arith)
 
--- counts of 7 and 9 bits ask for few bytes, whatever they are
+-- counts of 7 and 9 bits ask for few bits in all, whatever they are
 pub graph-bits-few : (s : List ℕ) → graphBits s ≤ 65536
 unfolding graphBits graphHeader
 graph-bits-few s = omega (arith, field-below s 5 7, field-below s 12 9)

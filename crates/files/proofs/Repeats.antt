@@ -1,4 +1,5 @@
--- An edge repeats an earlier one exactly if one with its three numbers stands before it.
+-- 8's test and its refusal, and the comparison of two edges by the numbers that the lists hold of them: the test is true exactly if some earlier
+-- edge is the same.
 use mathlib.Core.Path.{_≡_, refl, sym, ap, _∙_, subst}
 use mathlib.Core.Bool.{Bool, true, false, _&&_}
 use mathlib.Core.List.{List}

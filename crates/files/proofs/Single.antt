@@ -1,4 +1,4 @@
--- What the checks say of one task or edge, from the numbers that the lists hold of it.
+-- What the checks say of one task or edge: the lists hold its numbers, so a test of these is the test of the task or edge.
 use mathlib.Core.Path.{_≡_, refl, sym, ap, _∙_, subst}
 use mathlib.Core.Logic.{_≢_}
 use mathlib.Core.Bool.{Bool, true, false, not, _||_}

@@ -39,7 +39,7 @@ graphOf s = record {
 unfoldable pub proposalOf : List ℕ → List Edge
 proposalOf s = edgesFrom s proposalHeaderBits (proposalHeader s .edges)
 
--- the edge at a place, counted here from 0
+-- the edge at a place, counted here from 0; past the end the edge of zeros
 unfoldable pub edgeIn : List Edge → ℕ → Edge
 edgeIn es j = getD es j noEdge
 

@@ -13,6 +13,7 @@ unfoldable pub refuse : Bool → ℕ → ℕ → Refusal
 refuse true n p = record { number = n; place = p }
 refuse false n p = notRefused
 
+-- a refusal, if its number is not 0, else what comes later
 unfoldable pub choose : ℕ → Refusal → Refusal → Refusal
 choose zero r later = later
 choose (suc n) r later = r

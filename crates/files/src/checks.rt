@@ -86,11 +86,11 @@ fn repeats_earlier<'a>(source: &'a [u8], sink: &'a [u8], delay: &'a [u8], j: usi
 {
     let from = source[j];
     let to = sink[j];
-    let turns = delay[j];
+    let late = delay[j];
     let mut found = false;
     let mut i = 0;
     while i < j {
-        found = found | ((source[i] == from) & ((sink[i] == to) & (delay[i] == turns)));
+        found = found | ((source[i] == from) & ((sink[i] == to) & (delay[i] == late)));
         i += 1;
     }
     found

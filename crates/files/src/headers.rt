@@ -27,7 +27,13 @@ fn graph_header_refusal(bytes: &[u8], header: GraphHeader) -> Refusal
     if header.version != 1 {
         return OTHER_VERSION;
     }
-    if header.tasks < 2 || header.tasks > 64 || header.edges > 256 {
+    if header.tasks < 2 {
+        return COUNT_OUTSIDE;
+    }
+    if header.tasks > 64 {
+        return COUNT_OUTSIDE;
+    }
+    if header.edges > 256 {
         return COUNT_OUTSIDE;
     }
     PASSED
@@ -92,7 +98,10 @@ fn zeros_refusal(header: ProposalHeader) -> Refusal
 fn header_ends_refusal(header: GraphHeader) -> Refusal
     ensures { λ r. ⌜ ((s : List ℕ) → header ≡ graphHeader s → r ≡ headerEndsRefusal s) ⌝ }
 {
-    if header.input >= header.tasks || header.output >= header.tasks {
+    if header.input >= header.tasks {
+        return HEADER_OUTSIDE;
+    }
+    if header.output >= header.tasks {
         return HEADER_OUTSIDE;
     }
     PASSED

@@ -1,4 +1,5 @@
--- The parts of a record's 20 bits that shifts and masks leave are the fields of the task or of the edge, and fit their bytes.
+-- The parts of a record's 20 bits that shifts and masks leave are the fields of the task or of the edge (a field's
+-- first bits are a shift away, its last ones a mask), and each field is below the power of its width.
 use mathlib.Core.Path.{_≡_, ap, _∙_}
 use mathlib.Core.List.{List}
 use Prim.Native.Nat.{ℕ, _+_, _/_, _%_, _<_, _^_}

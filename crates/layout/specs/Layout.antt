@@ -15,15 +15,15 @@ graphHeader s = record { version = field s 0 5; tasks = field s 5 7; edges = fie
 unfoldable pub proposalHeader : List ℕ → ProposalHeader
 proposalHeader s = record { version = field s 0 5; edges = field s 5 9; zeros = field s 14 2 }
 
--- The header's bits: 56 of a graph, 16 of a proposal. A task and an edge have 20 bits each.
+-- The header's bits: 56 of a graph, 16 of a proposal. An edge has 20 bits, and so has a task (4 + 16).
 abbrev pub graphHeaderBits : ℕ
-graphHeaderBits = 56
+graphHeaderBits = 5 + 7 + 9 + 6 + 6 + 23
 
 abbrev pub proposalHeaderBits : ℕ
-proposalHeaderBits = 16
+proposalHeaderBits = 5 + 9 + 2
 
 abbrev pub recordBits : ℕ
-recordBits = 20
+recordBits = 6 + 6 + 8
 
 -- where record number i begins, counted from 0, of those that follow a header of so many bits
 abbrev pub recordStart : ℕ → ℕ → ℕ

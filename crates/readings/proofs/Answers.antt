@@ -1,4 +1,5 @@
--- The whole reading from the two groups of checks: the first refusal with zeros, or what the file holds.
+-- The whole reading from the two groups of checks, the first refusal with zeros or what the file holds: a group that refuses ends the chain, one
+-- that passes is left out of it.
 use mathlib.Core.Path.{_≡_, refl, sym, ap, _∙_}
 use mathlib.Core.Logic.{_≢_}
 use mathlib.Core.List.{List, [], _∷_}

@@ -1,4 +1,5 @@
--- What the lists of a graph's working form give the checks: room for the parts that are lent, and parts that hold the file's tasks and edges.
+-- What the lists of a graph's working form give the checks: they are as long as they were made, so there is room for the parts that are lent, and
+-- a part of them holds the file's tasks or edges.
 use mathlib.Core.Path.{_≡_}
 use mathlib.Core.List.{List}
 use Prim.Native.Nat.{ℕ, _+_, _-_, _≤_}

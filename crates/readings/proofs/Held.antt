@@ -1,4 +1,5 @@
--- The front of the working lists holds the numbers of the tasks and edges; and a reading carries its refusal.
+-- The front of the working lists holds the numbers of the tasks and edges, since the lists are made of them place by place; and a reading carries
+-- its refusal, by the two cases of its number.
 use mathlib.Core.Path.{_≡_, refl, sym, ap, _∙_}
 use mathlib.Core.Logic.{_⊎_, inl, inr, _≢_}
 use Prim.Native.Nat.{_+_, _≤_}

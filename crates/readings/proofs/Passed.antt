@@ -78,7 +78,7 @@ pub record ProposalFrame (s : List ℕ) : Type 0 where
   pub version-one : proposalHeader s .version ≡ 1
   pub at-most-256 : proposalHeader s .edges ≤ 256
   pub exact : length s ≡ bytesFor (proposalBits s)
-  pub no-zeros : proposalHeader s .zeros ≡ 0
+  pub zero-bits-unset : proposalHeader s .zeros ≡ 0
   pub no-filling : filling s (proposalBits s) ≡ 0
 
 pub proposal-frame-passed : (s : List ℕ) → proposalFrameRefusal s .number ≡ 0 → ProposalFrame s
@@ -95,6 +95,6 @@ proposal-frame-passed s none =
       version-one = eqb-true _ _ (not-false _ version);
       at-most-256 = ltb-false _ _ few;
       exact = length-exact s (proposalBits s) (head-passed (lengthRefusal s (proposalBits s)) _ rest);
-      no-zeros = eqb-true _ _ (not-false _ (check-passed _ 4 0 (λ z. omega arith) (head-passed (zerosRefusal s) _ after)));
+      zero-bits-unset = eqb-true _ _ (not-false _ (check-passed _ 4 0 (λ z. omega arith) (head-passed (zerosRefusal s) _ after)));
       no-filling = eqb-true _ _ (not-false _ (check-passed _ 4 0 (λ z. omega arith) fill));
     }

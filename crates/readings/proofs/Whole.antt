@@ -1,4 +1,5 @@
--- What stands at each place of the working lists: the numbers of the file's tasks, of the processor edges and of the file's edges, then 0.
+-- What stands at each place of the working lists: the numbers of the file's tasks, of the processor edges and of the file's edges, then 0. A list
+-- made place by place has at each place what it was made of, and past its end the task or edge of zeros.
 use mathlib.Core.Path.{_≡_, refl, sym, ap, _∙_, subst}
 use mathlib.Core.List.{List, _++_}
 use Prim.Native.Nat.{ℕ, _+_, _-_, _≤_, _<_}

@@ -14,6 +14,7 @@ use Rattle.readings.specs.declared.ProposalReading.{ProposalReading}
 use Rattle.files.specs.Refusals.{notRefused}
 use Rattle.files.specs.Files.{edgeIn, graphOf, graphRefusal, proposalOf, proposalRefusal}
 
+-- a graph in its working form
 unfoldable pub workingGraph : Graph → GraphReading
 workingGraph g = record {
   refusal = notRefused;
@@ -29,14 +30,7 @@ workingGraph g = record {
   delay = tabulate 320 (λ i. edgeIn (edges g) i .delay);
 }
 
--- five lists are those of a graph's working form
-pub record GraphLists (g : Graph) (processor time source sink delay : List ℕ) : Type 0 where
-  pub processors : processor ≡ workingGraph g .processor
-  pub times : time ≡ workingGraph g .time
-  pub sources : source ≡ workingGraph g .source
-  pub sinks : sink ≡ workingGraph g .sink
-  pub delays : delay ≡ workingGraph g .delay
-
+-- a refused graph file
 unfoldable pub refusedGraph : Refusal → GraphReading
 refusedGraph r = record {
   refusal = r;
@@ -52,6 +46,7 @@ refusedGraph r = record {
   delay = zeros 320;
 }
 
+-- what is read, if the number says that nothing is refused
 unfoldable pub ifPassed : {A : Type 0} → ℕ → A → A → A
 ifPassed zero read refused = read
 ifPassed (suc n) read refused = refused
@@ -64,6 +59,7 @@ graphAnswer r g = ifPassed (r .number) (workingGraph g) (refusedGraph r)
 unfoldable pub graphReading : List ℕ → GraphReading
 graphReading s = graphAnswer (graphRefusal s) (graphOf s)
 
+-- proposed edges in their working form
 unfoldable pub workingProposal : List Edge → ProposalReading
 workingProposal es = record {
   refusal = notRefused;
@@ -73,6 +69,7 @@ workingProposal es = record {
   delay = tabulate 256 (λ i. edgeIn es i .delay);
 }
 
+-- a refused proposal file
 unfoldable pub refusedProposal : Refusal → ProposalReading
 refusedProposal r = record { refusal = r; edges = 0; source = zeros 256; sink = zeros 256; delay = zeros 256 }
 
@@ -83,3 +80,11 @@ proposalAnswer r es = ifPassed (r .number) (workingProposal es) (refusedProposal
 -- what reading a proposal file gives, beside a graph of n tasks
 unfoldable pub proposalReading : ℕ → List ℕ → ProposalReading
 proposalReading n s = proposalAnswer (proposalRefusal n s) (proposalOf s)
+
+-- Only for contracts inside: five lists are those of a graph's working form.
+pub record GraphLists (g : Graph) (processor time source sink delay : List ℕ) : Type 0 where
+  pub processors : processor ≡ workingGraph g .processor
+  pub times : time ≡ workingGraph g .time
+  pub sources : source ≡ workingGraph g .source
+  pub sinks : sink ≡ workingGraph g .sink
+  pub delays : delay ≡ workingGraph g .delay

@@ -33,7 +33,7 @@ fn refused_graph(refusal: Refusal) -> GraphReading
     }
 }
 
-// The tasks and edges of a file whose header passed, into lists of zeros.
+// The tasks and edges of a file whose counts are in range, into lists of zeros.
 fn graph_lists<'a>(
     bytes: &[u8],
     header: GraphHeader,
@@ -56,7 +56,7 @@ fn graph_lists<'a>(
     edges_into(bytes, 56 + 20 * tasks, tasks, end, source, sink, delay);
 }
 
-// The same, and what is judged of the tasks and edges.
+// The tasks and edges of a file whose counts are in range, into lists of zeros, and the refusal that they get.
 fn graph_records<'a>(
     bytes: &[u8],
     header: GraphHeader,

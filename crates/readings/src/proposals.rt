@@ -25,7 +25,7 @@ fn refused_proposal(refusal: Refusal) -> ProposalReading
     }
 }
 
-// The edges of a file whose header passed, into lists of zeros, and what is judged of them.
+// The edges of a file whose count is in range, into lists of zeros, and the refusal that they get.
 fn proposal_records<'a>(
     bytes: &[u8],
     header: ProposalHeader,

@@ -31,7 +31,7 @@ DelaysOf es column = Column noEdge (λ e. e .delay) es column
 unfoldable pub edgeOf : EdgeRecord → Edge
 edgeOf r = record { source = r .source; sink = r .sink; delay = r .delay }
 
--- the list with f 0, f 1, .. in the places from a start to an end
+-- the list with f 0, f 1, .. in the places from a start up to an end, which is left out; places count from 0
 unfoldable pub withPart : ℕ → ℕ → (ℕ → ℕ) → List ℕ → List ℕ
 withPart start end f xs = take start xs ++ (tabulate (end - start) f ++ drop end xs)
 

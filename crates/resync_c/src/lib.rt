@@ -1,4 +1,4 @@
-// The calls for C and Rust. Each contract says the same as that of the call below it.
+// The calls for C and Rust. Each hands on to the call of its name in `readings`, and promises the same.
 ghost use mathlib.Core.Path.{_≡_};
 ghost use Rattle.readings.specs.Working.{graphReading, proposalReading};
 use readings::GraphReading;

@@ -1,4 +1,4 @@
--- `records::next_on` meets its contract: no task that was passed is on the processor.
+-- `records::next_on` meets its contract: no task that was looked at so far is on the processor.
 use mathlib.Core.Path.{_≡_}
 use Prim.Native.Nat.{ℕ, _-_, _≤_, _<_}
 use native.Mathlib.Omega.{arith}

@@ -1,4 +1,4 @@
--- `files::checks::edges_refusal` meets its contract: the checks of all edges that were passed pass.
+-- `files::checks::edges_refusal` meets its contract: no edge that was looked at so far is refused.
 use mathlib.Core.Path.{_≡_, sym, subst}
 use mathlib.Core.Logic.{⊎-elim}
 use mathlib.Core.List.{List}

@@ -1,4 +1,4 @@
--- `files::checks::ends_refusal` meets its contract: the checks of all edges that were passed pass.
+-- `files::checks::ends_refusal` meets its contract: no edge that was looked at so far is refused.
 use mathlib.Core.Path.{_≡_, sym, subst}
 use mathlib.Core.Logic.{⊎-elim}
 use mathlib.Core.List.{List}
@@ -52,7 +52,7 @@ returns c = λ es from to.
     let below = c .before .before .before .loop-test .taken in
     sym
     (stops-at (length es) (endsRefusal n es) (subst (λ (m : ℕ). j < m) (from .as-many) below) (c .before .before .before .before .loop .inv .1 es from to)
-    (⊎-elim (λ w. source-stops es from to j below n (w .taken)) (λ w. sink-stops es from to j below n (leb-true _ _ (w .1 .taken))) (c .if1 .came))
+    (⊎-elim (λ w. source-stops es from to j below n (omega (arith, w .taken))) (λ w. sink-stops es from to j below n (leb-true _ _ (w .1 .taken))) (c .if1 .came))
     (λ z. omega arith))
 
 add-j : tie.Need-add-j Inv-loop μ-loop
@@ -69,7 +69,7 @@ loop-again c =
       omega arith,
       λ es from to.
           below-more (λ i. endsRefusal n es i ≡ notRefused) j (c .before .before .before .before .before .loop .inv .1 es from to)
-          (ends-pass es from to j below n (c .before .if1 .left) (leb-false _ _ (c .if2 .left))),
+          (ends-pass es from to j below n (omega (arith, c .before .if1 .left)) (leb-false _ _ (c .if2 .left))),
     )
 
 returns-2 : tie.Need-returns-2 Inv-loop μ-loop

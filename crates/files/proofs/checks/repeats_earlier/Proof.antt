@@ -1,4 +1,4 @@
--- `files::checks::repeats_earlier` meets its contract: the flag says whether one of the edges that were passed equals edge j.
+-- `files::checks::repeats_earlier` meets its contract: the flag says whether one of the edges looked at so far equals edge j.
 use mathlib.Core.Path.{_≡_, refl, sym, ap, _∙_}
 use mathlib.Core.Bool.{Bool, _||_}
 use mathlib.Core.List.{List}
@@ -15,12 +15,12 @@ use Rattle.files.proofs.checks.repeats_earlier.Statement.{statement}
 use Rattle.files.proofs.checks.repeats_earlier.Tie as tie
 
 abbrev Inv-loop : tie.InvT-loop
-Inv-loop source sink delay j from to turns found₀ i₀ found i =
+Inv-loop source sink delay j from to late found₀ i₀ found i =
     (i ≤ j) ×
     ((es : List Edge) → SourcesOf es source → SinksOf es sink → DelaysOf es delay → found ≡ anyBelow i (λ k. sameEdge (edgeIn es k) (edgeIn es j)))
 
 abbrev μ-loop : tie.MeasureT-loop
-μ-loop source sink delay j from to turns found₀ i₀ found i = j - i
+μ-loop source sink delay j from to late found₀ i₀ found i = j - i
 
 shared-slice-read-from : tie.Need-shared-slice-read-from Inv-loop μ-loop
 shared-slice-read-from c = c .before .pre .0
@@ -28,8 +28,8 @@ shared-slice-read-from c = c .before .pre .0
 shared-slice-read-to : tie.Need-shared-slice-read-to Inv-loop μ-loop
 shared-slice-read-to c = omega (arith, c .before .before .pre .0, c .before .before .pre .1 .0)
 
-shared-slice-read-turns : tie.Need-shared-slice-read-turns Inv-loop μ-loop
-shared-slice-read-turns c = omega (arith, c .before .before .before .pre .0, c .before .before .before .pre .1 .1)
+shared-slice-read-late : tie.Need-shared-slice-read-late Inv-loop μ-loop
+shared-slice-read-late c = omega (arith, c .before .before .before .pre .0, c .before .before .before .pre .1 .1)
 
 loop-holds : tie.Need-loop-holds Inv-loop μ-loop
 unfolding anyBelow
@@ -79,7 +79,7 @@ repeats-earlier-spec =
     μ-loop
     shared-slice-read-from
     shared-slice-read-to
-    shared-slice-read-turns
+    shared-slice-read-late
     loop-holds
     shared-slice-read-found
     shared-slice-read-found-2

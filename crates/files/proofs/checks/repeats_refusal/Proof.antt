@@ -1,4 +1,4 @@
--- `files::checks::repeats_refusal` meets its contract: none of the edges that were passed repeats an earlier one.
+-- `files::checks::repeats_refusal` meets its contract: none of the edges looked at so far repeats an earlier one.
 use mathlib.Core.Path.{_≡_, sym, subst, _∙_}
 use mathlib.Core.List.{List}
 use Prim.Native.Nat.{ℕ, _-_, _≤_, _<_}

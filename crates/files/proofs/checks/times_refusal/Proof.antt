@@ -1,4 +1,4 @@
--- `files::checks::times_refusal` meets its contract: the checks of all tasks that were passed pass.
+-- `files::checks::times_refusal` meets its contract: no task that was looked at so far is refused.
 use mathlib.Core.Path.{_≡_, sym, subst}
 use Prim.Native.Nat.{ℕ, _-_, _≤_, _<_}
 use native.Mathlib.Omega.{arith}

@@ -1,16 +1,18 @@
--- `files::headers::header_ends_refusal` meets its contract, test by test.
+-- `files::headers::header_ends_refusal` meets its contract: at each return the tests before it passed, and the one that led there decides.
 use mathlib.Core.Path.{sym}
-use mathlib.Core.Logic.{⊎-elim}
-use borrow.Author.Tests.{leb-true, leb-false}
+use native.Mathlib.Omega.{arith}
 use Rattle.files.proofs.Frame.{input-stops, output-stops, header-ends-pass}
 use Rattle.files.proofs.headers.header_ends_refusal.Statement.{statement}
 use Rattle.files.proofs.headers.header_ends_refusal.Tie as tie
 
 returns : tie.Need-returns
-returns c = λ s is. sym (⊎-elim (λ w. input-stops s is (w .taken)) (λ w. output-stops s is (leb-true _ _ (w .2 .taken))) (c .if1 .came))
+returns c = λ s is. sym (input-stops s is (omega (arith, c .if1 .taken)))
 
 returns-2 : tie.Need-returns-2
-returns-2 c = λ s is. sym (header-ends-pass s is (c .before .before .if1 .left) (leb-false _ _ (c .if2 .left)))
+returns-2 c = λ s is. sym (output-stops s is (omega (arith, c .if2 .taken)))
+
+returns-3 : tie.Need-returns-3
+returns-3 c = λ s is. sym (header-ends-pass s is (omega (arith, c .before .before .if1 .left)) (omega (arith, c .if2 .left)))
 
 pub header-ends-refusal-spec : {M : Type 1} → statement M
-header-ends-refusal-spec = tie.close (tie.spec returns returns-2)
+header-ends-refusal-spec = tie.close (tie.spec returns returns-2 returns-3)

@@ -1,4 +1,4 @@
--- `files::headers::zeros_refusal` meets its contract, test by test.
+-- `files::headers::zeros_refusal` meets its contract: at each return the tests before it passed, and the one that led there decides.
 use mathlib.Core.Path.{sym}
 use Rattle.files.proofs.Frame.{zeros-stop, zeros-pass}
 use Rattle.files.proofs.headers.zeros_refusal.Statement.{statement}

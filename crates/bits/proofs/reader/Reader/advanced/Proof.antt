@@ -1,5 +1,5 @@
 -- `Reader::advanced` meets its contract, by a walk of its MIR: a struct is made of the slice that the one passed holds, and the sum.
--- The struct is Copy: one copy of what it owns is kept for the exit, and in the other the sum's facts take the place of at's.
+-- The struct is Copy: one copy of what it owns is kept for the exit, and in the other the facts of the sum take the place of those of `at`.
 use mathlib.Core.Path.{refl}
 use Prim.Native.Nat.{ℕ, _+_, _<_, _^_}
 use mathlib.Core.List.{[], _∷_}
@@ -73,7 +73,7 @@ module _ {M : Type 1} (𝓤 : URA M) (H : Heap 𝓤) (A : Atoms 𝓤) (W : Given
       qed W ((‵ (flft κ q) ⊛ ‵ ftrue) ∷ ‵ (owns (B (κ, tt) ∷ usize ∷ []) (d, (n, tt)) at) ∷ []) ∵
       suffices ! _ (ends-at 𝓤 H A advanced.ended stayed (advanced.clauses 𝓤 H A mem run) W (((κ, tt), (q, tt), tt, (d, (n, tt)), at), tt) (T′.lowered d′) d′ (tt, (tt, tt)) (tt, (tt, tt))) $ says ! (refl, refl) $
       frame ! $ fsplit ! $ use1 W (‵ Own ⊛ ‵ Own) (LL.copy (T.the-type α) (T′.the-copy α) 𝓤 H A W .twice d (mach ∷ [])) $ split ! $ move ! (0 ∷ 2 ∷ []) $ fjoin ! $ frame ! $
-      -- [what the struct owns]: the sum's facts take the place of at's
+      -- [what the struct owns]: the facts of the sum take the place of those of `at`
       owned ! usize (Is usize) (uint-makes 𝓤 H A W w64) (d .at + n) _ (refl, ok) $ move ! (1 ∷ 0 ∷ []) $ by ! (own-put 𝓤 H A W (T.the-type α) (T′.the-laws α) 1 (d .bytes, (d .at, tt)) (d .at + n) mach)
 
   module _ (C : Calls 𝓤 H) (Λ : Loops 𝓤 H) where
