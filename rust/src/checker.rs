@@ -1,6 +1,6 @@
 //! An independent reader of the two files, to compare the proved one with.
 //!
-//! It is written from documents 01 and 000 alone, as plainly as possible and without regard to speed: the file becomes a list
+//! It is written from document 01 alone, as plainly as possible and without regard to speed: the file becomes a list
 //! of bits, and fields are taken off its front. It shares no code with the other side.
 
 /// A task: its processor and its estimated time.
@@ -167,7 +167,7 @@ pub fn read_proposal(file: &[u8], tasks: usize) -> Result<Vec<Edge>, Refusal> {
     Ok(edges)
 }
 
-/// "Delay 0 from each task to the next on its processor, and delay 1 from the last to the first (a lone task has an edge to
+/// "delay 0 from each task to the next on its processor, and delay 1 from the last to the first (a lone task has an edge to
 /// itself)." One edge out of each task, in ascending task number.
 pub fn processor_edges(graph: &Graph) -> Vec<Edge> {
     let mut edges = Vec::new();

@@ -1,5 +1,6 @@
--- Functions on lists and on numbers below a limit. The first four, `put` to `keepPlaces`, are part of definitions to believe (what a result
--- keeps, an edge removed by its place, edges dropped by their places); the others serve what computes, and sums in bounds.
+-- Functions on lists and on numbers below a limit. The first four, `put` to `keepPlaces`, are part of definitions to believe here (what a result
+-- keeps, an edge removed by its place, edges dropped by their places), and `tabulate` and `anyBelow` of those of files; the others serve what
+-- computes, and sums in bounds.
 use mathlib.Core.Bool.{Bool, true, false, _&&_, _||_}
 use mathlib.Core.List.{List, [], _∷_, _++_}
 use mathlib.Core.Option.{Option, none, some}
@@ -29,7 +30,7 @@ module _ {A : Type 0} where
   keepPlaces t i [] = []
   keepPlaces t i (x ∷ xs) = put (t i) x (keepPlaces t (suc i) xs)
 
-  -- ── Only for definitions that compute ──
+  -- ── For definitions that compute, and for those of files ──
 
   -- f 0, f 1, .., the first n of them
   unfoldable pub tabulate : ℕ → (ℕ → A) → List A

@@ -20,8 +20,8 @@ AtLeastOne n K dur = (v k : ℕ) → v < n → 1 ≤ k → k ≤ K → 1 ≤ dur
 abbrev pub Keeps : ℕ → Times → Times → Edge → Type 0
 Keeps K start dur e = (k : ℕ) → e .delay < k → k ≤ K → ends start dur (e .source) (k - e .delay) ≤ start (e .sink) k
 
--- "A run of K turns gives every task and turn a start and a duration of at least 1, satisfying every edge." "A graph allows the runs
--- that satisfy all its edges."
+-- "A run of K turns gives every task and turn a start (a whole number from 0) and a duration of at least 1, satisfying every edge".
+-- "A graph allows the runs that satisfy all its edges".
 pub record Allows (n : ℕ) (es : List Edge) (K : ℕ) (start dur : Times) : Type 0 where
   pub positive : AtLeastOne n K dur
   pub keeps : (e : Edge) → e ∈ es → Keeps K start dur e
