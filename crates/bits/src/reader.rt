@@ -10,6 +10,7 @@ pub struct Reader<'a> {
 }
 
 impl<'a> Reader<'a> {
+    // A reader at a bit position.
     pub fn new(bytes: &'a [u8], at: usize) -> Reader<'a>
         ensures { λ r. ⌜ (r .bytes ≡ bytes .entry) × (r .at ≡ at) ⌝ }
     {

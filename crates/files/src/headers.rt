@@ -13,8 +13,11 @@ use crate::MORE_BYTES;
 use crate::OTHER_VERSION;
 use crate::PASSED;
 use crate::Refusal;
+use layout::GRAPH_HEADER_BITS;
 use layout::GraphHeader;
+use layout::PROPOSAL_HEADER_BITS;
 use layout::ProposalHeader;
+use layout::RECORD_BITS;
 
 // Header 1, 2, 3 of a graph.
 fn graph_header_refusal(bytes: &[u8], header: GraphHeader) -> Refusal
@@ -116,7 +119,7 @@ pub fn graph_frame_refusal(bytes: &[u8], header: GraphHeader) -> Refusal
     if counts.number != 0 {
         return counts;
     }
-    let used = 56 + 20 * (header.tasks as usize + header.edges as usize);
+    let used = GRAPH_HEADER_BITS + RECORD_BITS * (header.tasks as usize + header.edges as usize);
     let length = length_refusal(bytes, used);
     if length.number != 0 {
         return length;
@@ -137,7 +140,7 @@ pub fn proposal_frame_refusal(bytes: &[u8], header: ProposalHeader) -> Refusal
     if counts.number != 0 {
         return counts;
     }
-    let used = 16 + 20 * header.edges as usize;
+    let used = PROPOSAL_HEADER_BITS + RECORD_BITS * header.edges as usize;
     let length = length_refusal(bytes, used);
     if length.number != 0 {
         return length;

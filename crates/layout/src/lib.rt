@@ -4,6 +4,13 @@ ghost use Rattle.bits.specs.Bits.{field};
 ghost use Rattle.layout.specs.Layout.{graphHeader, proposalHeader, taskAt, edgeAt};
 use bits::Reader;
 
+// Bits of a graph's header and of a proposal's, and of a task or an edge.
+pub const GRAPH_HEADER_BITS: usize = 56;
+
+pub const PROPOSAL_HEADER_BITS: usize = 16;
+
+pub const RECORD_BITS: usize = 20;
+
 // Version 5 bits, tasks 7, edges 9, latency input 6, latency output 6, bound 23.
 pub struct GraphHeader {
     pub version: u32,

@@ -9,7 +9,9 @@ use crate::GraphReading;
 use files::Refusal;
 use files::graph_frame_refusal;
 use files::records_refusal;
+use layout::GRAPH_HEADER_BITS;
 use layout::GraphHeader;
+use layout::RECORD_BITS;
 use records::edges_into;
 use records::processor_edges_into;
 use records::tasks_into;
@@ -53,7 +55,15 @@ fn graph_lists<'a>(
     let end = tasks + header.edges as usize;
     tasks_into(bytes, tasks, processor, time);
     processor_edges_into(tasks, processor, source, sink, delay);
-    edges_into(bytes, 56 + 20 * tasks, tasks, end, source, sink, delay);
+    edges_into(
+        bytes,
+        GRAPH_HEADER_BITS + RECORD_BITS * tasks,
+        tasks,
+        end,
+        source,
+        sink,
+        delay,
+    );
 }
 
 // The tasks and edges of a file whose counts are in range, into lists of zeros, and the refusal that they get.
@@ -91,6 +101,7 @@ pub fn read_graph(bytes: &[u8]) -> GraphReading
 {
     let header = layout::graph_header(bytes);
     let frame = graph_frame_refusal(bytes, header);
+    // The answer if the header is refused; if not, lists of zeros to fill.
     let blank = refused_graph(frame);
     if frame.number != 0 {
         return blank;

@@ -9,6 +9,7 @@ use crate::ProposalReading;
 use files::Refusal;
 use files::proposal_frame_refusal;
 use files::proposed_refusal;
+use layout::PROPOSAL_HEADER_BITS;
 use layout::ProposalHeader;
 use records::edges_into;
 
@@ -43,7 +44,7 @@ fn proposal_records<'a>(
     ensures delay { λ _. ⌜ now (delay .exit) ≡ workingProposal (proposalOf (now (bytes .entry))) .delay ⌝ }
 {
     let edges = header.edges as usize;
-    edges_into(bytes, 16, 0, edges, source, sink, delay);
+    edges_into(bytes, PROPOSAL_HEADER_BITS, 0, edges, source, sink, delay);
     proposed_refusal(tasks, &source[0..edges], &sink[0..edges], &delay[0..edges])
 }
 
@@ -54,6 +55,7 @@ pub fn read_proposal(bytes: &[u8], tasks: usize) -> ProposalReading
 {
     let header = layout::proposal_header(bytes);
     let frame = proposal_frame_refusal(bytes, header);
+    // The answer if the header is refused; if not, lists of zeros to fill.
     let blank = refused_proposal(frame);
     if frame.number != 0 {
         return blank;

@@ -162,3 +162,13 @@ zeros-room size {n} is few = subst (λ (k : ℕ). n ≤ k) (sym (ap length is �
 
 pub within-list : (size : ℕ) (h : ℕ → ℕ) {n : ℕ} {xs : List ℕ} → xs ≡ tabulate size h → n ≤ size → n ≤ length xs
 within-list size h {n} is few = subst (λ (k : ℕ). n ≤ k) (sym (ap length is ∙ length-tabulate size h)) few
+
+-- zeros with a filled front are as long as the zeros were, whatever stands in front
+pub filled-room :
+    (size n : ℕ) (f : ℕ → ℕ) {k : ℕ} {before after : List ℕ} → n ≤ size → before ≡ zeros size → after ≡ withPart 0 n f before → k ≤ size
+    → k ≤ length after
+filled-room size n f {k} {before} {after} fits blank filled few =
+    let long : length before ≡ size = ap length blank ∙ zeros-length size in
+    let whole : length (withPart 0 n f before) ≡ length before = part-length 0 n f before (omega arith) (omega arith) in
+    let same : length (withPart 0 n f before) ≡ length after = ap length (sym filled) in
+    omega arith

@@ -9,6 +9,8 @@ ghost use Rattle.model.specs.Processors.{processorEdge};
 ghost use Rattle.layout.specs.Layout.{graphHeaderBits, recordStart, taskAt, edgeAt};
 ghost use Rattle.records.specs.Columns.{withPart, ProcessorsOf, edgeOf};
 use layout::EdgeRecord;
+use layout::GRAPH_HEADER_BITS;
+use layout::RECORD_BITS;
 
 // The tasks of a graph file, as many as the lists have room for.
 pub fn read_tasks<'a>(bytes: &[u8], processor: &'a mut [u8], time: &'a mut [u16])
@@ -17,13 +19,13 @@ pub fn read_tasks<'a>(bytes: &[u8], processor: &'a mut [u8], time: &'a mut [u16]
     ensures { λ _. ⌜ now (processor .exit) ≡ tabulate (length (now (processor .entry))) (λ v. taskAt (now (bytes .entry)) (recordStart graphHeaderBits v) .processor) ⌝ }
     ensures { λ _. ⌜ now (time .exit) ≡ tabulate (length (now (processor .entry))) (λ v. taskAt (now (bytes .entry)) (recordStart graphHeaderBits v) .time) ⌝ }
 {
-    let mut at = 56;
+    let mut at = GRAPH_HEADER_BITS;
     let mut v = 0;
     while v < processor.len() {
         let task = layout::task_at(bytes, at);
         processor[v] = task.processor;
         time[v] = task.time;
-        at += 20;
+        at += RECORD_BITS;
         v += 1;
     }
 }
@@ -51,7 +53,7 @@ pub fn read_edges<'a>(
         source[j] = edge.source;
         sink[j] = edge.sink;
         delay[j] = edge.delay;
-        at += 20;
+        at += RECORD_BITS;
         j += 1;
     }
 }

@@ -1,30 +1,18 @@
 -- `readings::graphs::graph_lists` meets its contract: zeros with the tasks in front, and zeros with the processor edges and then the file's edges
 -- in front, are the lists of the working form.
-use mathlib.Core.Path.{_≡_, refl, sym, ap, _∙_}
-use mathlib.Core.List.{List}
-use Prim.Native.Nat.{ℕ, _+_, _≤_}
+use mathlib.Core.Path.{refl}
+use Prim.Native.Nat.{_+_, _≤_}
 use native.Mathlib.Omega.{arith}
-use lib.ListN.{length}
 use Rattle.model.specs.Tasks.{noTask, processorOf}
 use Rattle.model.specs.Graph.{timeOf}
 use Rattle.files.specs.Files.{graphOf}
-use Rattle.records.specs.Columns.{zeros, withPart}
+use Rattle.records.specs.Columns.{zeros}
 use Rattle.readings.specs.Working.{workingGraph}
-use Rattle.records.proofs.Parts.{part-length, zeros-length, zeros-room, within-list, column-of-take}
+use Rattle.records.proofs.Parts.{zeros-room, filled-room, within-list, column-of-take}
 use Rattle.readings.proofs.Whole.{header-tasks, task-list, edge-list}
 use borrow.Author.Needs.{needs}
 use Rattle.readings.proofs.graphs.graph_lists.Statement.{statement}
 use Rattle.readings.proofs.graphs.graph_lists.Tie as tie
-
--- a list of zeros with a filled front has room for the edges
-part-room :
-    {n m : ℕ} (f : ℕ → ℕ) {before after : List ℕ} → n ≤ 64 → m ≤ 256 → before ≡ zeros 320 → after ≡ withPart 0 n f before
-    → n + m ≤ length after
-part-room {n} {m} f {before} {after} few few′ blank filled =
-    let long : length before ≡ 320 = ap length blank ∙ zeros-length 320 in
-    let whole : length (withPart 0 n f before) ≡ length before = part-length 0 n f before (omega arith) (omega arith) in
-    let same : length (withPart 0 n f before) ≡ length after = ap length (sym filled) in
-    omega arith
 
 cast-tasks : tie.Need-cast-tasks
 cast-tasks c = search needs
@@ -69,14 +57,16 @@ edges-into-requires c κs =
     let is = start .pre .0 in
     let few = start .pre .1 .0 in
     let processors = task-list s is (λ t. t .processor) refl (few .0) (start .pre .1 .1 .0 .0) (c .before .before .before .before .before .before .before .before .before .before .before .before .before .before .before .before .before .before .tasks-into .ensures .0) in
+    let less : start .args .header .tasks ≤ 320 = omega (arith, few .0) in
+    let room : start .args .header .tasks + start .args .header .edges ≤ 320 = omega (arith, few .0, few .1) in
     let on = column-of-take noTask (λ t. t .processor) (graphOf s .tasks) 64 (start .args .header .tasks) processors (few .0) (header-tasks s is) in (
       omega (arith, few .0),
       (
         (omega arith, omega (arith, few .1)),
         (
-          part-room _ (few .0) (few .1) (start .pre .1 .1 .1 .0) (c .before .before .before .before .before .before .before .before .before .processor-edges-into .ensures .0 (graphOf s .tasks) on),
-          part-room _ (few .0) (few .1) (start .pre .1 .1 .1 .1) (c .before .before .before .before .before .before .before .before .before .processor-edges-into .ensures .1 .0 (graphOf s .tasks) on),
-          part-room _ (few .0) (few .1) (start .pre .1 .1 .1 .2) (c .before .before .before .before .before .before .before .before .before .processor-edges-into .ensures .1 .1 (graphOf s .tasks) on),
+          filled-room 320 _ _ less (start .pre .1 .1 .1 .0) (c .before .before .before .before .before .before .before .before .before .processor-edges-into .ensures .0 (graphOf s .tasks) on) room,
+          filled-room 320 _ _ less (start .pre .1 .1 .1 .1) (c .before .before .before .before .before .before .before .before .before .processor-edges-into .ensures .1 .0 (graphOf s .tasks) on) room,
+          filled-room 320 _ _ less (start .pre .1 .1 .1 .2) (c .before .before .before .before .before .before .before .before .before .processor-edges-into .ensures .1 .1 (graphOf s .tasks) on) room,
         ),
       ),
     )

@@ -6,7 +6,7 @@ use Rattle.model.specs.Tasks.{noEdge}
 use Rattle.layout.specs.declared.ProposalHeader.{ProposalHeader}
 use Rattle.files.specs.Files.{proposalOf, edgeIn}
 use Rattle.readings.specs.Working.{workingProposal}
-use Rattle.records.proofs.Parts.{zeros-room, within-list, column-of-front}
+use Rattle.records.proofs.Parts.{zeros-room, filled-room, column-of-front}
 use Rattle.readings.proofs.Whole.{proposal-list, proposal-count}
 use borrow.Author.Needs.{needs}
 use Rattle.readings.proofs.proposals.proposal_records.Statement.{statement}
@@ -28,7 +28,8 @@ part-proposed-refusal-start c = search needs
 
 part-proposed-refusal-end : tie.Need-part-proposed-refusal-end
 part-proposed-refusal-end c =
-    within-list 256 _ (proposal-list (λ e. e .source) refl (c .before .before .before .before .before .before .before .before .before .before .before .before .before .before .before .before .args .bytes .now) (ap (λ (h : ProposalHeader). h .edges) (c .before .before .before .before .before .before .before .before .before .before .before .before .before .before .before .before .pre .0)) (c .before .before .before .before .before .before .before .before .before .before .before .before .before .before .before .before .pre .1 .0) (c .before .before .before .before .before .before .before .before .before .before .before .before .before .before .before .before .pre .1 .1 .0) (c .before .before .before .before .before .before .before .edges-into .ensures .0)) (c .before .before .before .before .before .before .before .before .before .before .before .before .before .before .before .before .pre .1 .0)
+    let asked = c .before .before .before .before .before .before .before .before .before .before .before .before .before .before .before .before .pre in
+    filled-room 256 _ _ (asked .1 .0) (asked .1 .1 .0) (c .before .before .before .before .before .before .before .edges-into .ensures .0) (asked .1 .0)
 
 sub-proposed-refusal-2 : tie.Need-sub-proposed-refusal-2
 sub-proposed-refusal-2 c = search needs
@@ -38,7 +39,8 @@ part-proposed-refusal-start-2 c = search needs
 
 part-proposed-refusal-end-2 : tie.Need-part-proposed-refusal-end-2
 part-proposed-refusal-end-2 c =
-    within-list 256 _ (proposal-list (λ e. e .sink) refl (c .before .before .before .before .before .before .before .before .before .before .before .before .before .before .before .before .before .before .args .bytes .now) (ap (λ (h : ProposalHeader). h .edges) (c .before .before .before .before .before .before .before .before .before .before .before .before .before .before .before .before .before .before .pre .0)) (c .before .before .before .before .before .before .before .before .before .before .before .before .before .before .before .before .before .before .pre .1 .0) (c .before .before .before .before .before .before .before .before .before .before .before .before .before .before .before .before .before .before .pre .1 .1 .1) (c .before .before .before .before .before .before .before .before .before .edges-into .ensures .1 .0)) (c .before .before .before .before .before .before .before .before .before .before .before .before .before .before .before .before .before .before .pre .1 .0)
+    let asked = c .before .before .before .before .before .before .before .before .before .before .before .before .before .before .before .before .before .before .pre in
+    filled-room 256 _ _ (asked .1 .0) (asked .1 .1 .1) (c .before .before .before .before .before .before .before .before .before .edges-into .ensures .1 .0) (asked .1 .0)
 
 sub-proposed-refusal-3 : tie.Need-sub-proposed-refusal-3
 sub-proposed-refusal-3 c = search needs
@@ -48,7 +50,8 @@ part-proposed-refusal-start-3 c = search needs
 
 part-proposed-refusal-end-3 : tie.Need-part-proposed-refusal-end-3
 part-proposed-refusal-end-3 c =
-    within-list 256 _ (proposal-list (λ e. e .delay) refl (c .before .before .before .before .before .before .before .before .before .before .before .before .before .before .before .before .before .before .before .before .args .bytes .now) (ap (λ (h : ProposalHeader). h .edges) (c .before .before .before .before .before .before .before .before .before .before .before .before .before .before .before .before .before .before .before .before .pre .0)) (c .before .before .before .before .before .before .before .before .before .before .before .before .before .before .before .before .before .before .before .before .pre .1 .0) (c .before .before .before .before .before .before .before .before .before .before .before .before .before .before .before .before .before .before .before .before .pre .1 .1 .2) (c .before .before .before .before .before .before .before .before .before .before .before .edges-into .ensures .1 .1)) (c .before .before .before .before .before .before .before .before .before .before .before .before .before .before .before .before .before .before .before .before .pre .1 .0)
+    let asked = c .before .before .before .before .before .before .before .before .before .before .before .before .before .before .before .before .before .before .before .before .pre in
+    filled-room 256 _ _ (asked .1 .0) (asked .1 .1 .2) (c .before .before .before .before .before .before .before .before .before .before .before .edges-into .ensures .1 .1) (asked .1 .0)
 
 proposed-refusal-requires : tie.Need-proposed-refusal-requires
 proposed-refusal-requires c κs = search needs
