@@ -1,3 +1,5 @@
 -- The proofs that other crates may cite.
 pub mod Fill
 pub mod Parts
+pub mod Rows
+pub mod Edges

@@ -1,7 +1,7 @@
 -- Lists of numbers that hold tasks and edges, one number of each in each list, and what is written into them.
 use mathlib.Core.Path.{_≡_}
-use mathlib.Core.List.{List, _++_}
-use Prim.Native.Nat.{ℕ, _-_, _<_}
+use mathlib.Core.List.{List, [], _++_}
+use Prim.Native.Nat.{ℕ, zero, suc, _-_, _<_}
 use lib.ListN.{length, getD, take, drop, replicate}
 use Rattle.model.specs.Lists.{tabulate}
 use Rattle.model.specs.Tasks.{Task, Edge, noTask, noEdge}
@@ -27,6 +27,14 @@ SinksOf es column = Column noEdge (λ e. e .sink) es column
 abbrev pub DelaysOf : List Edge → List ℕ → Type 0
 DelaysOf es column = Column noEdge (λ e. e .delay) es column
 
+-- entry i of three lists that hold edges
+unfoldable pub heldEdge : List ℕ → List ℕ → List ℕ → ℕ → Edge
+heldEdge source sink delay i = record { source = getD source i 0; sink = getD sink i 0; delay = getD delay i 0 }
+
+-- the edges that three lists hold, in their sequence
+unfoldable pub edgesOf : List ℕ → List ℕ → List ℕ → List Edge
+edgesOf source sink delay = tabulate (length source) (heldEdge source sink delay)
+
 -- an edge record as an edge
 unfoldable pub edgeOf : EdgeRecord → Edge
 edgeOf r = record { source = r .source; sink = r .sink; delay = r .delay }
@@ -38,3 +46,8 @@ withPart start end f xs = take start xs ++ (tabulate (end - start) f ++ drop end
 -- n zeros
 unfoldable pub zeros : ℕ → List ℕ
 zeros n = replicate n 0
+
+-- the lists f 0, f 1, .., the first n of them, one after the other
+unfoldable pub rows : ℕ → (ℕ → List ℕ) → List ℕ
+rows zero f = []
+rows (suc n) f = rows n f ++ f n
