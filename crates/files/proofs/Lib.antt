@@ -4,3 +4,4 @@ pub mod Single
 pub mod Repeats
 pub mod Frame
 pub mod Example
+pub mod Numbers

@@ -32,6 +32,6 @@ module _ (source sink delay : List ℕ) where
   edges-of-columns es from to turns =
       ext-getD noEdge (edgesOf source sink delay) es (edges-length ∙ from .as-many)
       (λ i l.
-          let below : i < length source = subst (λ (m : ℕ). i < m) edges-length l in
-          let inside : i < length es = subst (λ (m : ℕ). i < m) (from .as-many) below in
-          edge-at i below ∙ (λ x. record { source = from .same i inside x; sink = to .same i inside x; delay = turns .same i inside x }))
+      let below : i < length source = subst (λ (m : ℕ). i < m) edges-length l in
+      let inside : i < length es = subst (λ (m : ℕ). i < m) (from .as-many) below in
+      edge-at i below ∙ (λ x. record { source = from .same i inside x; sink = to .same i inside x; delay = turns .same i inside x }))

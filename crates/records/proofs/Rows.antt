@@ -44,8 +44,8 @@ module _ (w : ℕ) (f : ℕ → List ℕ) (wide : (a : ℕ) → length (f a) ≡
       let front : length (rows a f) ≡ at = rows-length a ∙ sym is in
       let before : take at xs ≡ rows a f = ap (λ (zs : List ℕ). take at zs) held ∙ take-at (rows a f) (drop at kept) at front in
       let behind : postOf at (at + w - at) xs ≡ drop (at + w) kept =
-          ap (λ (zs : List ℕ). drop (at + w - at) (drop at zs)) held ∙
-          (ap (λ (zs : List ℕ). drop (at + w - at) zs) (drop-at (rows a f) (drop at kept) at front) ∙ post-is at (at + w) kept (omega arith)) in
+      ap (λ (zs : List ℕ). drop (at + w - at) (drop at zs)) held ∙
+      (ap (λ (zs : List ℕ). drop (at + w - at) zs) (drop-at (rows a f) (drop at kept) at front) ∙ post-is at (at + w) kept (omega arith)) in
       ap (λ (zs : List ℕ). zs ++ (ys ++ postOf at (at + w - at) xs)) before ∙
       (ap (λ (zs : List ℕ). rows a f ++ (zs ++ postOf at (at + w - at) xs)) row ∙
       (ap (λ (zs : List ℕ). rows a f ++ (f a ++ zs)) behind ∙ sym (append-assoc (rows a f) (f a) (drop (at + w) kept))))

@@ -1,8 +1,16 @@
-// The calls for C and Rust. Each hands on to the call of its name in `readings`, and promises the same.
+// The calls for C and Rust. Each hands on to the call of its name in `resync`, or in `readings`, and promises the same.
 ghost use mathlib.Core.Path.{_≡_};
+ghost use lib.ListN.{length};
 ghost use Rattle.readings.specs.Working.{graphReading, proposalReading};
+ghost use Rattle.marks.specs.Marks.{markAt, placesOf};
+ghost use Rattle.resync.specs.Calls.{outcome, figuresOf, delaysRefusal, delaysAfter, redundantOf, timetableRefusal, timetableAfter};
+use marks::Marks;
+use marks::Places;
 use readings::GraphReading;
 use readings::ProposalReading;
+use resync::GraphFigures;
+use resync::Outcome;
+use resync::RedundantSet;
 
 // Which graph a file is, or which refusal of 1 to 8 it gets.
 #[no_mangle]
@@ -18,4 +26,46 @@ pub extern "C" fn resync_read_proposal(file: &[u8], tasks: usize) -> ProposalRea
     ensures { λ r. ⌜ r ≡ proposalReading tasks (now (file .entry)) ⌝ }
 {
     readings::read_proposal(file, tasks)
+}
+
+// Tasks, edges and latency of a graph.
+#[no_mangle]
+pub extern "C" fn resync_figures(graph: &[u8]) -> GraphFigures
+    ensures { λ r. ⌜ r ≡ figuresOf (now (graph .entry)) ⌝ }
+{
+    resync::figures(graph)
+}
+
+// The least delay from each task to each, row by row at the front of the list, 65,535 where there is no path.
+#[no_mangle]
+pub extern "C" fn resync_least_delays(graph: &[u8], table: &mut [u16]) -> Outcome
+    ensures outcome { λ r. ⌜ r ≡ outcome (delaysRefusal (now (graph .entry)) (length (now (table .entry)))) ⌝ }
+    ensures table { λ _. ⌜ now (table .exit) ≡ delaysAfter (now (graph .entry)) (now (table .entry)) ⌝ }
+{
+    resync::least_delays(graph, table)
+}
+
+// The marks of the redundant edges, edge 1 the most significant bit of the first word, and how many are set.
+#[no_mangle]
+pub extern "C" fn resync_redundant(graph: &[u8]) -> RedundantSet
+    ensures { λ r. ⌜ r ≡ redundantOf (now (graph .entry)) ⌝ }
+{
+    resync::redundant(graph)
+}
+
+// The places of marks that are set, counted from 1, ascending.
+#[no_mangle]
+pub extern "C" fn resync_places(marks: Marks) -> Places
+    ensures { λ r. ⌜ r ≡ placesOf (markAt marks) ⌝ }
+{
+    resync::places(marks)
+}
+
+// The earliest starts at the estimated times in turns 1 to `turns`, turn by turn at the front of the list, tasks in order.
+#[no_mangle]
+pub extern "C" fn resync_timetable(graph: &[u8], turns: usize, starts: &mut [u32]) -> Outcome
+    ensures outcome { λ r. ⌜ r ≡ outcome (timetableRefusal (now (graph .entry)) turns (length (now (starts .entry)))) ⌝ }
+    ensures starts { λ _. ⌜ now (starts .exit) ≡ timetableAfter (now (graph .entry)) turns (now (starts .entry)) ⌝ }
+{
+    resync::timetable(graph, turns, starts)
 }

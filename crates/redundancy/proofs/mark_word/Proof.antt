@@ -1,0 +1,92 @@
+-- `redundancy::mark_word` meets its contract: after j turns the word is the number of the first j marks, and below 2 to the j, so it fits.
+use mathlib.Core.Path.{_≡_, ap, subst}
+use Prim.Native.Nat.{ℕ, _+_, _*_, _-_, _^_, _≤_, _<_}
+use native.Mathlib.Omega.{arith}
+use Rattle.model.specs.Graph.{Graph}
+use Rattle.model.specs.Compute.{isRedundant}
+use Rattle.records.specs.Columns.{edgesOf}
+use Rattle.marks.specs.Marks.{number}
+use Rattle.redundancy.specs.Redundancy.{HeldGraph}
+use Rattle.redundancy.proofs.Words.{digit-more, digit-fits, number-more, number-none}
+use Rattle.redundancy.proofs.mark_word.Statement.{statement}
+use Rattle.redundancy.proofs.mark_word.Tie as tie
+
+abbrev Inv-loop : tie.InvT-loop
+Inv-loop source sink delay table tasks first start word₀ j₀ word j =
+    (j ≤ 64) × (word < 2 ^ j) ×
+    ((g : Graph) → HeldGraph g tasks (edgesOf source sink delay) → word ≡ number j (λ i. isRedundant g (first + i)))
+
+abbrev μ-loop : tie.MeasureT-loop
+μ-loop source sink delay table tasks first start word₀ j₀ word j = 64 - j
+
+add-start : tie.Need-add-start Inv-loop μ-loop
+add-start c =
+    let asked = c .before .before .before .before .pre in
+    omega (arith, asked .0, asked .1 .few)
+
+loop-holds : tie.Need-loop-holds Inv-loop μ-loop
+loop-holds c =
+    let first = c .before .before .before .before .args .first in
+    (omega arith, omega arith, λ g held. number-none (λ i. isRedundant g (first + i)))
+
+mul-word : tie.Need-mul-word Inv-loop μ-loop
+mul-word c =
+    let loop = c .before .loop in
+    let below : loop .word * 2 + 0 < 2 ^ 64 = digit-fits (loop .j) 64 (omega arith) (loop .inv .1) (omega arith) in
+    omega (arith, below)
+
+add-mark : tie.Need-add-mark Inv-loop μ-loop
+add-mark c =
+    let asked = c .before .before .before .before .before .before .pre in
+    omega (arith, asked .0, asked .1 .few)
+
+mark-requires : tie.Need-mark-requires Inv-loop μ-loop
+mark-requires c κs = c .before .before .before .before .before .before .pre .1
+
+add-word : tie.Need-add-word Inv-loop μ-loop
+add-word c =
+    let loop = c .before .before .loop in
+    let below : loop .word * 2 + c .mark .result < 2 ^ 64 =
+    digit-fits (loop .j) 64 (omega arith) (loop .inv .1) (c .mark .ensures .0) in
+    omega (arith, below)
+
+add-j : tie.Need-add-j Inv-loop μ-loop
+add-j c = omega arith
+
+loop-less : tie.Need-loop-less Inv-loop μ-loop
+loop-less c = omega arith
+
+loop-again : tie.Need-loop-again Inv-loop μ-loop
+loop-again c =
+    let args = c .before .before .before .before .before .before .before .args in
+    let loop = c .before .before .loop in (
+      omega arith,
+      digit-more (loop .j) (loop .inv .1) (c .mark .ensures .0),
+      λ g held.
+          number-more (λ i. isRedundant g (args .first + i)) (loop .j) (loop .inv .2 g held)
+          (c .mark .ensures .1 g held (args .first + loop .j) (omega arith)),
+    )
+
+returns : tie.Need-returns Inv-loop μ-loop
+returns c = λ g held.
+    let args = c .before .before .before .before .before .before .args in
+    let loop = c .before .loop in
+    let last : loop .j ≡ 64 = omega arith in
+    subst (λ (k : ℕ). loop .word ≡ number k (λ i. isRedundant g (args .first + i))) last (loop .inv .2 g held)
+
+pub mark-word-spec : {M : Type 1} → statement M
+mark-word-spec =
+    tie.close
+    (tie.spec
+    Inv-loop
+    μ-loop
+    add-start
+    loop-holds
+    mul-word
+    add-mark
+    mark-requires
+    add-word
+    add-j
+    loop-less
+    loop-again
+    returns)

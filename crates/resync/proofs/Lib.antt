@@ -1,0 +1,7 @@
+-- The proofs that other crates may cite.
+pub mod Checked
+pub mod Results
+pub mod Given
+pub mod Written
+pub mod Meanings
+pub mod Example

@@ -1,0 +1,133 @@
+-- The lent list after a call: what was written, then what the list held past it, or the list as it was. So it keeps its length and all that stands past
+-- the written part; and each row of what was written stands at its place.
+use mathlib.Core.Path.{_≡_, ap, _∙_, subst}
+use mathlib.Core.Logic.{_⊎_, inl, inr, _≢_}
+use mathlib.Core.List.{List, _++_}
+use Prim.Native.Nat.{ℕ, suc, _+_, _-_, _*_, _≤_, _<_}
+use native.Mathlib.Nat.{mul-comm, suc-mul, mul-le-mul-right}
+use native.Mathlib.Omega.{arith}
+use lib.ListN.{length, getD, drop, length-append, length-drop, List·getD-append}
+use lib.Seq.{getD-append-add, getD-drop}
+use Rattle.model.specs.Graph.{edges, timeOf}
+use Rattle.model.specs.Runs.{estimates}
+use Rattle.model.specs.Compute.{leastDelay, earliest}
+use Rattle.records.proofs.Rows.{rows-length, rows-at}
+use Rattle.records.proofs.Fill.{length-tabulate, getD-tabulate}
+use Rattle.files.specs.Files.{graphOf}
+use Rattle.files.proofs.First.{zero-or-not}
+use Rattle.readings.specs.Working.{ifPassed}
+use Rattle.readings.proofs.Answers.{if-passed, if-refused}
+use Rattle.delays.specs.Delays.{entry, delayRow, delayTable}
+use Rattle.delays.proofs.Row.{row-length}
+use Rattle.starts.specs.Starts.{turnRow, turnRows}
+use Rattle.resync.specs.Calls.{tasksOf, tableOf, delaysRefusal, delaysAfter, startsOf, timetableRefusal, timetableAfter}
+use Rattle.resync.specs.Theorems.{DelaysKept, TimetableKept, DelaysPast, TimetablePast}
+use Rattle.resync.proofs.Given.{delays-given, timetable-given}
+
+-- a list lent to a call that answers n, and writes k numbers if n is 0
+module _ (n k : ℕ) (written lent : List ℕ) (long : length written ≡ k) where
+  as-long : k ≤ length lent → length (written ++ drop k lent) ≡ length lent
+  as-long room =
+      let both = length-append written (drop k lent) in
+      let rest = length-drop k lent in
+      omega arith
+
+  past-it : (i : ℕ) → k ≤ i → getD (written ++ drop k lent) i 0 ≡ getD lent i 0
+  past-it i past =
+      let at : i ≡ length written + (i - k) = omega arith in
+      let back : k + (i - k) ≡ i = omega arith in
+      ap (λ (j : ℕ). getD (written ++ drop k lent) j 0) at ∙
+      (getD-append-add written (drop k lent) (i - k) 0 ∙ (getD-drop k lent (i - k) 0 ∙ ap (λ (j : ℕ). getD lent j 0) back))
+
+  kept-past :
+      (n ≡ 0 → k ≤ length lent) →
+      (length (ifPassed n (written ++ drop k lent) lent) ≡ length lent) ×
+      ((i : ℕ) → k ≤ i → getD (ifPassed n (written ++ drop k lent) lent) i 0 ≡ getD lent i 0)
+  kept-past room = go (zero-or-not n)
+    where
+      go : (n ≡ 0) ⊎ (n ≢ 0) →
+          (length (ifPassed n (written ++ drop k lent) lent) ≡ length lent) ×
+          ((i : ℕ) → k ≤ i → getD (ifPassed n (written ++ drop k lent) lent) i 0 ≡ getD lent i 0)
+      go (inl none) =
+          let is = if-passed n (written ++ drop k lent) lent none in
+          (ap length is ∙ as-long (room none), λ i past. ap (λ (xs : List ℕ). getD xs i 0) is ∙ past-it i past)
+      go (inr some) =
+          let is = if-refused n (written ++ drop k lent) lent some in
+          (ap length is, λ i past. ap (λ (xs : List ℕ). getD xs i 0) is)
+
+  written-at : n ≡ 0 → (i : ℕ) → i < k → getD (ifPassed n (written ++ drop k lent) lent) i 0 ≡ getD written i 0
+  written-at none i before =
+      let inside : i < length written = omega arith in
+      ap (λ (xs : List ℕ). getD xs i 0) (if-passed n (written ++ drop k lent) lent none) ∙
+      List·getD-append written (drop k lent) 0 i inside
+
+-- ── What the two calls write ──
+
+table-length : (s : List ℕ) → length (tableOf s) ≡ tasksOf s * tasksOf s
+unfolding tableOf delayTable
+table-length s = rows-length (tasksOf s) (delayRow (tasksOf s) (edges (graphOf s))) (row-length (tasksOf s) (edges (graphOf s))) (tasksOf s)
+
+turn-length : (s : List ℕ) (k : ℕ) → length (turnRow (tasksOf s) (edges (graphOf s)) (timeOf (graphOf s)) k) ≡ tasksOf s
+unfolding turnRow
+turn-length s k = length-tabulate (tasksOf s) (λ v. earliest (tasksOf s) (edges (graphOf s)) (estimates (timeOf (graphOf s))) v k)
+
+starts-length : (s : List ℕ) (turns : ℕ) → length (startsOf s turns) ≡ tasksOf s * turns
+unfolding startsOf turnRows
+starts-length s turns =
+    rows-length (tasksOf s) (λ k. turnRow (tasksOf s) (edges (graphOf s)) (timeOf (graphOf s)) (suc k)) (λ k. turn-length s (suc k)) turns ∙
+    mul-comm turns (tasksOf s)
+
+-- row a of a list of m rows of n numbers ends within it
+row-within : (n m a b : ℕ) → a < m → b < n → a * n + b < m * n
+row-within n m a b l k =
+    let whole : suc a * n ≤ m * n = mul-le-mul-right n l in
+    let next : suc a * n ≡ a * n + n = suc-mul a n in
+    omega arith
+
+-- the element of tasks a and b
+pub table-at :
+    (s table : List ℕ) → delaysRefusal s (length table) .number ≡ 0 → (a b : ℕ) → a < tasksOf s → b < tasksOf s →
+    getD (delaysAfter s table) (a * tasksOf s + b) 0 ≡ entry (leastDelay (tasksOf s) (edges (graphOf s)) a b)
+unfolding delaysAfter tableOf delayTable delayRow
+table-at s table none a b l k =
+    let n = tasksOf s in
+    let es = edges (graphOf s) in
+    written-at (delaysRefusal s (length table) .number) (n * n) (tableOf s) table (table-length s) none (a * n + b) (row-within n n a b l k) ∙
+    (rows-at n (delayRow n es) (row-length n es) n a b l k ∙ getD-tabulate n (λ x. entry (leastDelay n es a x)) 0 b k)
+
+-- the element of task v in turn k, counted here from 0
+pub starts-at :
+    (s : List ℕ) (turns : ℕ) (starts : List ℕ) → timetableRefusal s turns (length starts) .number ≡ 0 → (v k : ℕ) → v < tasksOf s → k < turns →
+    getD (timetableAfter s turns starts) (k * tasksOf s + v) 0 ≡ earliest (tasksOf s) (edges (graphOf s)) (estimates (timeOf (graphOf s))) v (suc k)
+unfolding timetableAfter startsOf turnRows turnRow
+starts-at s turns starts none v k l h =
+    let n = tasksOf s in
+    let es = edges (graphOf s) in
+    let time = timeOf (graphOf s) in
+    let inside : k * n + v < n * turns = subst (λ (m : ℕ). k * n + v < m) (mul-comm turns n) (row-within n turns k v h l) in
+    written-at (timetableRefusal s turns (length starts) .number) (n * turns) (startsOf s turns) starts (starts-length s turns) none (k * n + v) inside ∙
+    (rows-at n (λ j. turnRow n es time (suc j)) (λ j. turn-length s (suc j)) turns k v h l ∙
+    getD-tabulate n (λ x. earliest n es (estimates time) x (suc k)) 0 v l)
+
+-- ── The calls ──
+
+pub delays-kept : DelaysKept
+unfolding delaysAfter
+delays-kept s table some = if-refused (delaysRefusal s (length table) .number) (tableOf s ++ drop (tasksOf s * tasksOf s) table) table some
+
+pub timetable-kept : TimetableKept
+unfolding timetableAfter
+timetable-kept s turns starts some =
+    if-refused (timetableRefusal s turns (length starts) .number) (startsOf s turns ++ drop (tasksOf s * turns) starts) starts some
+
+pub delays-past : DelaysPast
+unfolding delaysAfter
+delays-past s table =
+    kept-past (delaysRefusal s (length table) .number) (tasksOf s * tasksOf s) (tableOf s) table (table-length s)
+    (λ none. (delays-given s (length table)) .0 none .1)
+
+pub timetable-past : TimetablePast
+unfolding timetableAfter
+timetable-past s turns starts =
+    kept-past (timetableRefusal s turns (length starts) .number) (tasksOf s * turns) (startsOf s turns) starts (starts-length s turns)
+    (λ none. (timetable-given s turns (length starts)) .0 none .3)

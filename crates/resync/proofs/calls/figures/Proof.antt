@@ -1,0 +1,23 @@
+-- `resync::calls::figures` meets its contract: by the two cases of the refusal's number.
+use Rattle.resync.proofs.Results.{figures-refused, figures-read}
+use borrow.Author.Needs.{needs}
+use Rattle.resync.proofs.calls.figures.Statement.{statement}
+use Rattle.resync.proofs.calls.figures.Tie as tie
+use Rattle.resync.proofs.calls.figures.Reads as reads
+use Rattle.resync.proofs.calls.figures.Lts as lts
+use Rattle.resync.proofs.calls.told.Reads as told-reads
+
+accept-requires : tie.Need-accept-requires
+accept-requires c κs = search needs
+
+told-requires : tie.Need-told-requires
+told-requires c κs = search needs
+
+returns : tie.Need-returns
+returns c = figures-refused (c .before .before .before .before .before .before .args .graph .now) (c .before .before .before .before .accept .ensures) (c .if1 .taken) (c .before .before .told .ensures)
+
+returns-2 : tie.Need-returns-2
+returns-2 c = figures-read (c .before .before .before .before .before .before .before .args .graph .now) (c .before .before .before .before .before .accept .ensures) (c .before .if1 .left) (c .before .before .before .told .ensures)
+
+pub figures-spec : {M : Type 1} → statement M
+figures-spec = tie.close (tie.spec accept-requires told-requires returns returns-2)

@@ -1,0 +1,14 @@
+-- `resync::calls::no_marks` meets its contract: four words of 0.
+use mathlib.Core.Path.{refl}
+use Rattle.resync.specs.Calls.{noMarks}
+use Rattle.resync.proofs.calls.no_marks.Statement.{statement}
+use Rattle.resync.proofs.calls.no_marks.Tie as tie
+use Rattle.resync.proofs.calls.no_marks.Reads as reads
+use Rattle.resync.proofs.calls.no_marks.Lts as lts
+
+returns : tie.Need-returns
+unfolding noMarks
+returns c = refl
+
+pub no-marks-spec : {M : Type 1} → statement M
+no-marks-spec = tie.close (tie.spec returns)

@@ -1,0 +1,112 @@
+-- What the answers of the calls on a graph mean, as statements: paths and runs. proofs/Meanings.antt proves them.
+use mathlib.Core.Path.{_≡_}
+use mathlib.Core.Logic.{_↔_, _⊎_}
+use mathlib.Core.List.{List}
+use mathlib.Core.Option.{Option, some}
+use Prim.Native.Nat.{ℕ, _+_, _-_, _*_, _≤_, _<_}
+use lib.ListN.{length, getD}
+use Rattle.model.specs.Graph.{edges, timeOf}
+use Rattle.model.specs.Paths.{Least, Redundant, Latency}
+use Rattle.model.specs.Runs.{Times, Earliest, estimates}
+use Rattle.model.specs.Proposals.{AcceptedGraph}
+use Rattle.model.specs.Theorems.{Decides}
+use Rattle.files.specs.Files.{graphOf, graphRefusal}
+use Rattle.marks.specs.Marks.{markAt, setBelow}
+use Rattle.delays.specs.Delays.{entry}
+use Rattle.schedule.specs.Schedule.{acceptanceRefusal}
+use Rattle.resync.specs.Calls.{tasksOf, figuresOf, delaysRefusal, delaysAfter, redundantOf, timetableRefusal, timetableAfter}
+
+-- The file's graph is accepted: none of 1 to 8 refuses the file, and the graph passes 9 to 12.
+abbrev pub AcceptedFile : List ℕ → Type 0
+AcceptedFile s = (graphRefusal s .number ≡ 0) × AcceptedGraph (graphOf s)
+
+-- ── Which calls succeed ──
+
+-- Figures and redundant set are given exactly for an accepted file.
+abbrev pub FiguresGiven : Type 0
+FiguresGiven = (s : List ℕ) → (figuresOf s .outcome .number ≡ 0) ↔ AcceptedFile s
+
+abbrev pub RedundantGiven : Type 0
+RedundantGiven = (s : List ℕ) → (redundantOf s .outcome .number ≡ 0) ↔ AcceptedFile s
+
+-- The delay table is written exactly if the file is accepted and the list has room for tasks squared numbers.
+abbrev pub DelaysGiven : Type 0
+DelaysGiven = (s : List ℕ) (room : ℕ) → (delaysRefusal s room .number ≡ 0) ↔ (AcceptedFile s × (tasksOf s * tasksOf s ≤ room))
+
+-- The timetable is written exactly if there are 1 to 64 turns, the file is accepted and the list has room for tasks × turns numbers.
+abbrev pub TimetableGiven : Type 0
+TimetableGiven =
+    (s : List ℕ) (turns room : ℕ) →
+    (timetableRefusal s turns room .number ≡ 0) ↔ ((1 ≤ turns) × (turns ≤ 64) × AcceptedFile s × (tasksOf s * turns ≤ room))
+
+-- 16 comes exactly if the list is too short and nothing before it refuses; 17 exactly if the turns are outside 1 to 64, whatever the file.
+abbrev pub DelaysShort : Type 0
+DelaysShort = (s : List ℕ) (room : ℕ) → (delaysRefusal s room .number ≡ 16) ↔ (AcceptedFile s × (room < tasksOf s * tasksOf s))
+
+abbrev pub TimetableShort : Type 0
+TimetableShort =
+    (s : List ℕ) (turns room : ℕ) →
+    (timetableRefusal s turns room .number ≡ 16) ↔ ((1 ≤ turns) × (turns ≤ 64) × AcceptedFile s × (room < tasksOf s * turns))
+
+abbrev pub TurnsOutside : Type 0
+TurnsOutside = (s : List ℕ) (turns room : ℕ) → (timetableRefusal s turns room .number ≡ 17) ↔ ((turns < 1) ⊎ (64 < turns))
+
+-- A refused call changes no element.
+abbrev pub DelaysKept : Type 0
+DelaysKept = (s table : List ℕ) → (delaysRefusal s (length table) .number ≡ 0 → ⊥) → delaysAfter s table ≡ table
+
+abbrev pub TimetableKept : Type 0
+TimetableKept =
+    (s : List ℕ) (turns : ℕ) (starts : List ℕ) → (timetableRefusal s turns (length starts) .number ≡ 0 → ⊥) → timetableAfter s turns starts ≡ starts
+
+-- A lent list keeps its length, and a successful call changes no element past what it writes.
+abbrev pub DelaysPast : Type 0
+DelaysPast =
+    (s table : List ℕ) →
+    (length (delaysAfter s table) ≡ length table) ×
+    ((i : ℕ) → tasksOf s * tasksOf s ≤ i → getD (delaysAfter s table) i 0 ≡ getD table i 0)
+
+abbrev pub TimetablePast : Type 0
+TimetablePast =
+    (s : List ℕ) (turns : ℕ) (starts : List ℕ) →
+    (length (timetableAfter s turns starts) ≡ length starts) ×
+    ((i : ℕ) → tasksOf s * turns ≤ i → getD (timetableAfter s turns starts) i 0 ≡ getD starts i 0)
+
+-- ── What they give ──
+
+-- The latency of the figures is document 01's.
+abbrev pub FiguresMean : Type 0
+FiguresMean =
+    (s : List ℕ) → AcceptedFile s →
+    (figuresOf s .tasks ≡ tasksOf s) × (figuresOf s .edges ≡ length (graphOf s .syncs)) ×
+    Latency (edges (graphOf s)) (timeOf (graphOf s)) (graphOf s .output) (figuresOf s .latency)
+
+-- The element of tasks a and b is their least delay, 65,535 if there is no path; and no least delay is 65,535.
+abbrev pub DelaysMean : Type 0
+DelaysMean =
+    (s table : List ℕ) → delaysRefusal s (length table) .number ≡ 0 → (a b : ℕ) → a < tasksOf s → b < tasksOf s →
+    (o : Option ℕ) → Least (edges (graphOf s)) a b o → getD (delaysAfter s table) (a * tasksOf s + b) 0 ≡ entry o
+
+abbrev pub DelaysSmall : Type 0
+DelaysSmall = (s : List ℕ) → AcceptedFile s → (a b d : ℕ) → Least (edges (graphOf s)) a b (some d) → d < 65535
+
+-- The mark of an edge is set exactly if the edge is redundant, and the count is that of the marks set.
+abbrev pub RedundantMean : Type 0
+RedundantMean =
+    (s : List ℕ) → AcceptedFile s → (i : ℕ) → i < 256 → Decides (markAt (redundantOf s .marks) i) (Redundant (graphOf s) i)
+
+abbrev pub RedundantCounted : Type 0
+RedundantCounted = (s : List ℕ) → redundantOf s .count ≡ setBelow 256 (markAt (redundantOf s .marks))
+
+-- The element of turn k and task v is the start in the earliest run at the estimated times, of every turn.
+abbrev pub TimetableMean : Type 0
+TimetableMean =
+    (s : List ℕ) (turns : ℕ) (starts : List ℕ) → timetableRefusal s turns (length starts) .number ≡ 0 →
+    (start : Times) → Earliest (tasksOf s) (edges (graphOf s)) turns start (estimates (timeOf (graphOf s))) →
+    (v k : ℕ) → v < tasksOf s → 1 ≤ k → k ≤ turns → getD (timetableAfter s turns starts) ((k - 1) * tasksOf s + v) 0 ≡ start v k
+
+-- and there is such a run
+abbrev pub TimetableRuns : Type 0
+TimetableRuns =
+    (s : List ℕ) (turns : ℕ) → AcceptedFile s →
+    (start : Times) × Earliest (tasksOf s) (edges (graphOf s)) turns start (estimates (timeOf (graphOf s)))

@@ -1,0 +1,36 @@
+// The calls on a graph: figures, least delays, redundant edges, timetable. Each takes a graph file's bytes, whatever they are.
+mod calls;
+
+pub use calls::figures;
+pub use calls::least_delays;
+pub use calls::places;
+pub use calls::redundant;
+pub use calls::timetable;
+use marks::Marks;
+
+// What a call says: number 0 if it succeeds, else document 01's number of the refusal, and place, latency and margin where 01
+// names them for that number, 0 elsewhere.
+#[repr(C)]
+pub struct Outcome {
+    pub number: u32,
+    pub place: u32,
+    pub latency: u32,
+    pub margin: i32,
+}
+
+// Tasks, edges and latency of a graph; 0 if it is refused.
+#[repr(C)]
+pub struct GraphFigures {
+    pub outcome: Outcome,
+    pub tasks: u32,
+    pub edges: u32,
+    pub latency: u32,
+}
+
+// The redundant edges of a graph: their marks, and how many are set. No mark if it is refused.
+#[repr(C)]
+pub struct RedundantSet {
+    pub outcome: Outcome,
+    pub marks: Marks,
+    pub count: u32,
+}

@@ -1,0 +1,6 @@
+-- The proofs that other crates may cite.
+pub mod Tested
+pub mod Chain
+pub mod Fronts
+pub mod Accepting
+pub mod Judged

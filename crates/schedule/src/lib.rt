@@ -1,0 +1,191 @@
+// Refusals 9 to 12: what a schedule must have to be accepted. Every call on a graph starts from `accept`.
+ghost use mathlib.Core.Path.{_≡_};
+ghost use mathlib.Core.Bool.{false};
+ghost use Prim.Native.Nat.{ℕ, _≤_, _<_};
+ghost use lib.ListN.{length};
+ghost use Rattle.model.specs.Compute.{inputFree, joined, latency};
+ghost use Rattle.records.specs.Columns.{edgesOf};
+ghost use Rattle.delays.specs.Delays.{Fit};
+ghost use Rattle.waits.specs.Waits.{at};
+ghost use Rattle.starts.specs.Starts.{FileTimes};
+ghost use Rattle.readings.specs.Working.{ifPassed};
+ghost use Rattle.schedule.specs.Schedule.{scheduleChecks, acceptance};
+use delays::least_row;
+use files::Refusal;
+use readings::GraphReading;
+use readings::read_graph;
+use starts::has_zero_cycle;
+
+// A graph file after all checks up to 12: the refusal, the latency of an accepted graph, and the graph as read.
+pub struct Acceptance {
+    pub refusal: Refusal,
+    pub latency: u32,
+    pub reading: GraphReading,
+}
+
+// The outcome of checks 9 to 12: the refusal, and the latency if there is none.
+struct Checked {
+    refusal: Refusal,
+    latency: u32,
+}
+
+// One row of least delays.
+struct Row {
+    delay: [u16; 64],
+}
+
+const ACCEPTED: Refusal = Refusal {
+    number: 0,
+    place: 0,
+};
+
+const ZERO_CYCLE: Refusal = Refusal {
+    number: 9,
+    place: 0,
+};
+
+const INPUT_WAITS: Refusal = Refusal {
+    number: 10,
+    place: 0,
+};
+
+const NOT_JOINED: Refusal = Refusal {
+    number: 11,
+    place: 0,
+};
+
+const BOUND_BELOW: Refusal = Refusal {
+    number: 12,
+    place: 0,
+};
+
+fn blank_row() -> Row
+    ensures { λ r. ⌜ length (r .delay) ≡ 64 ⌝ }
+{
+    Row { delay: [0; 64] }
+}
+
+// Whether no edge of delay 0 leads to the latency input.
+fn input_free<'a>(source: &'a [u8], sink: &'a [u8], delay: &'a [u8], input: usize) -> bool
+    requires { ⌜ (length (now sink) ≡ length (now source)) × (length (now delay) ≡ length (now source)) ⌝ }
+    ensures { λ r. ⌜ r ≡ inputFree (edgesOf (now (source .entry)) (now (sink .entry)) (now (delay .entry))) input ⌝ }
+{
+    let mut j = 0;
+    while j < source.len() {
+        if sink[j] as usize == input {
+            if delay[j] == 0 {
+                return false;
+            }
+        }
+        j += 1;
+    }
+    true
+}
+
+// Whether input and output differ and a path of delay 0 joins them.
+fn is_joined<'a>(
+    source: &'a [u8],
+    sink: &'a [u8],
+    delay: &'a [u8],
+    tasks: usize,
+    input: usize,
+    output: usize,
+) -> bool
+    requires { ⌜ (length (now sink) ≡ length (now source)) × (length (now delay) ≡ length (now source)) ⌝ }
+    requires { ⌜ (tasks ≤ 64) × (output < tasks) ⌝ }
+    requires { ⌜ Fit tasks (edgesOf (now source) (now sink) (now delay)) ⌝ }
+    ensures { λ r. ⌜ r ≡ joined tasks (edgesOf (now (source .entry)) (now (sink .entry)) (now (delay .entry))) input output ⌝ }
+{
+    if input == output {
+        return false;
+    }
+    let blank = blank_row();
+    let mut row = blank.delay;
+    least_row(source, sink, delay, input, &mut row[0..tasks]);
+    row[output] == 0
+}
+
+// Checks 9 to 12.
+fn check_schedule<'a>(
+    source: &'a [u8],
+    sink: &'a [u8],
+    delay: &'a [u8],
+    time: &'a [u16],
+    input: usize,
+    output: usize,
+    bound: u32,
+) -> Checked
+    requires { ⌜ (length (now sink) ≡ length (now source)) × (length (now delay) ≡ length (now source)) ⌝ }
+    requires { ⌜ (length (now time) ≤ 64) × (output < length (now time)) ⌝ }
+    requires { ⌜ Fit (length (now time)) (edgesOf (now source) (now sink) (now delay)) ⌝ }
+    requires { ⌜ FileTimes (now time) ⌝ }
+    ensures refusal { λ r. ⌜ r .refusal ≡ scheduleChecks (length (now (time .entry))) (edgesOf (now (source .entry)) (now (sink .entry)) (now (delay .entry))) (at (now (time .entry))) input output bound ⌝ }
+    ensures latency { λ r. ⌜ r .latency ≡ ifPassed (r .refusal .number) (latency (length (now (time .entry))) (edgesOf (now (source .entry)) (now (sink .entry)) (now (delay .entry))) (at (now (time .entry))) output) 0 ⌝ }
+{
+    let tasks = time.len();
+    if has_zero_cycle(source, sink, delay, tasks) {
+        return Checked {
+            refusal: ZERO_CYCLE,
+            latency: 0,
+        };
+    }
+    if !input_free(source, sink, delay, input) {
+        return Checked {
+            refusal: INPUT_WAITS,
+            latency: 0,
+        };
+    }
+    if !is_joined(source, sink, delay, tasks, input, output) {
+        return Checked {
+            refusal: NOT_JOINED,
+            latency: 0,
+        };
+    }
+    let latency = starts::latency(source, sink, delay, time, output);
+    if bound < latency {
+        return Checked {
+            refusal: BOUND_BELOW,
+            latency: 0,
+        };
+    }
+    Checked {
+        refusal: ACCEPTED,
+        latency,
+    }
+}
+
+// Reads a graph file and judges it up to 12: for every list of bytes.
+pub fn accept(graph: &[u8]) -> Acceptance
+    ensures { λ r. ⌜ r ≡ acceptance (now (graph .entry)) ⌝ }
+{
+    let reading = read_graph(graph);
+    let refusal = reading.refusal;
+    if refusal.number != 0 {
+        return Acceptance {
+            refusal,
+            latency: 0,
+            reading,
+        };
+    }
+    let tasks = reading.tasks as usize;
+    let end = tasks + reading.edges as usize;
+    let source = reading.source;
+    let sink = reading.sink;
+    let delay = reading.delay;
+    let time = reading.time;
+    let checked = check_schedule(
+        &source[0..end],
+        &sink[0..end],
+        &delay[0..end],
+        &time[0..tasks],
+        reading.input as usize,
+        reading.output as usize,
+        reading.bound,
+    );
+    let judged = checked.refusal;
+    Acceptance {
+        refusal: judged,
+        latency: checked.latency,
+        reading,
+    }
+}

@@ -1,0 +1,169 @@
+// Cycles of delay 0, latency, and the earliest starts of each turn.
+ghost use mathlib.Core.Path.{_≡_};
+ghost use mathlib.Core.Bool.{false};
+ghost use mathlib.Core.List.{_++_};
+ghost use Prim.Native.Nat.{_*_, _≤_, _<_};
+ghost use lib.ListN.{length, drop, replicate};
+ghost use Rattle.model.specs.Tasks.{Ends};
+ghost use Rattle.model.specs.Compute.{zeroCycle, latency};
+ghost use Rattle.records.specs.Columns.{edgesOf, zeros};
+ghost use Rattle.waits.specs.Waits.{at};
+ghost use Rattle.starts.specs.Starts.{turnRow, turnRows, FileTimes, EndedBefore};
+use waits::await_earlier;
+use waits::clear;
+use waits::ends_into;
+use waits::settle;
+
+// Above every end of 64 turns of 64 tasks whose times are at most 65,535.
+const FAR: u32 = 1073741824;
+
+// Times of up to 64 tasks.
+struct Times {
+    time: [u16; 64],
+}
+
+// Starts of up to 64 tasks in one turn.
+struct Starts {
+    start: [u32; 64],
+}
+
+// Ends of up to 64 tasks in up to 64 turns, turn by turn.
+struct Ended {
+    end: [u32; 4096],
+}
+
+// Times of 1.
+fn unit_times() -> Times
+    ensures { λ r. ⌜ r .time ≡ replicate 64 1 ⌝ }
+{
+    Times { time: [1; 64] }
+}
+
+// Starts of 0.
+fn no_starts() -> Starts
+    ensures { λ r. ⌜ r .start ≡ zeros 64 ⌝ }
+{
+    Starts { start: [0; 64] }
+}
+
+// Ends of 0, in the place of turns that have not run.
+fn no_ends() -> Ended
+    ensures { λ r. ⌜ r .end ≡ zeros 4096 ⌝ }
+{
+    Ended { end: [0; 4096] }
+}
+
+// Whether there is a cycle of delay 0: at times of 1, whether some first turn would start after as many units as there are tasks.
+pub fn has_zero_cycle<'a>(source: &'a [u8], sink: &'a [u8], delay: &'a [u8], tasks: usize) -> bool
+    requires { ⌜ (length (now sink) ≡ length (now source)) × (length (now delay) ≡ length (now source)) ⌝ }
+    requires { ⌜ tasks ≤ 64 ⌝ }
+    requires { ⌜ Ends tasks (edgesOf (now source) (now sink) (now delay)) ⌝ }
+    ensures { λ r. ⌜ r ≡ zeroCycle tasks (edgesOf (now (source .entry)) (now (sink .entry)) (now (delay .entry))) ⌝ }
+{
+    let times = unit_times();
+    let starts = no_starts();
+    let time = times.time;
+    let mut start = starts.start;
+    let settled = settle(
+        source,
+        sink,
+        delay,
+        &time[0..tasks],
+        64,
+        &mut start[0..tasks],
+    );
+    !settled
+}
+
+// The earliest starts of one turn, counted from 1, after the ends of the turns before it; whatever the row held before.
+pub fn turn_starts<'a>(
+    source: &'a [u8],
+    sink: &'a [u8],
+    delay: &'a [u8],
+    time: &'a [u16],
+    ended: &'a [u32],
+    turn: usize,
+    row: &mut [u32],
+)
+    requires { ⌜ (length (now sink) ≡ length (now source)) × (length (now delay) ≡ length (now source)) ⌝ }
+    requires { ⌜ (length (now time) ≡ length (now row)) × (length (now row) ≤ 64) ⌝ }
+    requires { ⌜ (1 ≤ turn) × (turn ≤ 64) ⌝ }
+    requires { ⌜ Ends (length (now row)) (edgesOf (now source) (now sink) (now delay)) ⌝ }
+    requires { ⌜ zeroCycle (length (now row)) (edgesOf (now source) (now sink) (now delay)) ≡ false ⌝ }
+    requires { ⌜ FileTimes (now time) ⌝ }
+    requires { ⌜ EndedBefore (length (now row)) (edgesOf (now source) (now sink) (now delay)) (at (now time)) turn (now ended) ⌝ }
+    ensures { λ _. ⌜ now (row .exit) ≡ turnRow (length (now (row .entry))) (edgesOf (now (source .entry)) (now (sink .entry)) (now (delay .entry))) (at (now (time .entry))) turn ⌝ }
+{
+    clear(row);
+    await_earlier(source, sink, delay, ended, turn, row);
+    settle(source, sink, delay, time, FAR, row);
+}
+
+// The latency of a graph without cycle of delay 0: when the output ends in the first turn.
+pub fn latency<'a>(
+    source: &'a [u8],
+    sink: &'a [u8],
+    delay: &'a [u8],
+    time: &'a [u16],
+    output: usize,
+) -> u32
+    requires { ⌜ (length (now sink) ≡ length (now source)) × (length (now delay) ≡ length (now source)) ⌝ }
+    requires { ⌜ (length (now time) ≤ 64) × (output < length (now time)) ⌝ }
+    requires { ⌜ Ends (length (now time)) (edgesOf (now source) (now sink) (now delay)) ⌝ }
+    requires { ⌜ zeroCycle (length (now time)) (edgesOf (now source) (now sink) (now delay)) ≡ false ⌝ }
+    requires { ⌜ FileTimes (now time) ⌝ }
+    ensures { λ r. ⌜ r ≡ latency (length (now (time .entry))) (edgesOf (now (source .entry)) (now (sink .entry)) (now (delay .entry))) (at (now (time .entry))) output ⌝ }
+{
+    let tasks = time.len();
+    let starts = no_starts();
+    let ends = no_ends();
+    let mut start = starts.start;
+    let end = ends.end;
+    turn_starts(
+        source,
+        sink,
+        delay,
+        time,
+        &end[0..0],
+        1,
+        &mut start[0..tasks],
+    );
+    start[output] + time[output] as u32
+}
+
+// The earliest starts of the first turns, turn by turn at the front of a list; elements past them keep what they held.
+pub fn turns_into<'a>(
+    source: &'a [u8],
+    sink: &'a [u8],
+    delay: &'a [u8],
+    time: &'a [u16],
+    turns: usize,
+    starts: &mut [u32],
+)
+    requires { ⌜ (length (now sink) ≡ length (now source)) × (length (now delay) ≡ length (now source)) ⌝ }
+    requires { ⌜ (length (now time) ≤ 64) × (turns ≤ 64) × (length (now time) * turns ≤ length (now starts)) ⌝ }
+    requires { ⌜ Ends (length (now time)) (edgesOf (now source) (now sink) (now delay)) ⌝ }
+    requires { ⌜ zeroCycle (length (now time)) (edgesOf (now source) (now sink) (now delay)) ≡ false ⌝ }
+    requires { ⌜ FileTimes (now time) ⌝ }
+    ensures { λ _. ⌜ now (starts .exit) ≡ turnRows (length (now (time .entry))) (edgesOf (now (source .entry)) (now (sink .entry)) (now (delay .entry))) (at (now (time .entry))) turns ++ drop (length (now (time .entry)) * turns) (now (starts .entry)) ⌝ }
+{
+    let tasks = time.len();
+    let ends = no_ends();
+    let mut end = ends.end;
+    let mut at = 0;
+    let mut turn = 1;
+    while turn <= turns {
+        turn_starts(
+            source,
+            sink,
+            delay,
+            time,
+            &end[0..at],
+            turn,
+            &mut starts[at..at + tasks],
+        );
+        ends_into(time, &starts[at..at + tasks], &mut end[at..at + tasks]);
+        at += tasks;
+        turn += 1;
+    }
+}
