@@ -35,7 +35,7 @@ pub struct Refusal {
     pub place: usize,
 }
 
-fn refuse<T>(number: usize, place: usize) -> Result<T, Refusal> {
+pub(crate) fn refuse<T>(number: usize, place: usize) -> Result<T, Refusal> {
     Err(Refusal { number, place })
 }
 

@@ -1,5 +1,11 @@
 //! Seeded random numbers, and random files made from them. The same seed gives the same files on every machine.
 
+// Every file of tests takes in the whole generator and uses a part.
+#![allow(dead_code)]
+
+pub mod damage;
+pub mod desks;
+
 use resync::checker::{Edge, Graph, Task};
 
 /// Splitmix64.
@@ -12,7 +18,7 @@ impl Generator {
         Generator { state: seed }
     }
 
-    fn word(&mut self) -> u64 {
+    pub fn word(&mut self) -> u64 {
         self.state = self.state.wrapping_add(0x9E37_79B9_7F4A_7C15);
         let mut word = self.state;
         word = (word ^ (word >> 30)).wrapping_mul(0xBF58_476D_1CE4_E5B9);
@@ -33,6 +39,12 @@ impl Generator {
 
     pub fn pick(&mut self, choices: &[usize]) -> usize {
         choices[self.between(0, choices.len() - 1)]
+    }
+
+    pub fn shuffle<T>(&mut self, list: &mut [T]) {
+        for last in (1..list.len()).rev() {
+            list.swap(last, self.between(0, last));
+        }
     }
 
     pub fn bytes(&mut self, length: usize) -> Vec<u8> {

@@ -13,10 +13,6 @@ use Rattle.schedule.proofs.Accepting.{read-passed, not-read, judged}
 use borrow.Author.Needs.{needs}
 use Rattle.schedule.proofs.accept.Statement.{statement}
 use Rattle.schedule.proofs.accept.Tie as tie
-use Rattle.schedule.proofs.accept.Reads as reads
-use Rattle.schedule.proofs.accept.Lts as lts
-use Rattle.readings.proofs.read_graph.Reads as read-graph-reads
-use Rattle.schedule.proofs.check_schedule.Reads as check-schedule-reads
 
 read-graph-requires : tie.Need-read-graph-requires
 read-graph-requires c κs = search needs

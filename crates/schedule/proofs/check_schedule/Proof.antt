@@ -11,10 +11,6 @@ use Rattle.schedule.proofs.Chain.{stops-9, stops-10, stops-11, stops-12
 use borrow.Author.Needs.{needs}
 use Rattle.schedule.proofs.check_schedule.Statement.{statement}
 use Rattle.schedule.proofs.check_schedule.Tie as tie
-use Rattle.schedule.proofs.check_schedule.Reads as reads
-use Rattle.schedule.proofs.check_schedule.Lts as lts
-use Rattle.schedule.proofs.input_free.Reads as input-free-reads
-use Rattle.schedule.proofs.is_joined.Reads as is-joined-reads
 
 has-zero-cycle-requires : tie.Need-has-zero-cycle-requires
 has-zero-cycle-requires c κs = search needs

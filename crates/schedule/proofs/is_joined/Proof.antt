@@ -12,9 +12,6 @@ use Rattle.schedule.proofs.Tested.{same-task, other-task}
 use borrow.Author.Needs.{needs}
 use Rattle.schedule.proofs.is_joined.Statement.{statement}
 use Rattle.schedule.proofs.is_joined.Tie as tie
-use Rattle.schedule.proofs.is_joined.Reads as reads
-use Rattle.schedule.proofs.is_joined.Lts as lts
-use Rattle.schedule.proofs.blank_row.Reads as blank-row-reads
 
 front-length : {tasks : ℕ} (row : List ℕ) → length row ≡ 64 → tasks ≤ 64 → length (take (tasks - 0) row) ≡ tasks
 front-length {tasks} row whole few = length-take-le (tasks - 0) row (omega arith) ∙ sub-zero tasks

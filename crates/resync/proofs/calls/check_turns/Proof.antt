@@ -4,8 +4,6 @@ use native.Mathlib.Omega.{arith}
 use Rattle.resync.proofs.Checked.{turns-few, turns-many, turns-inside}
 use Rattle.resync.proofs.calls.check_turns.Statement.{statement}
 use Rattle.resync.proofs.calls.check_turns.Tie as tie
-use Rattle.resync.proofs.calls.check_turns.Reads as reads
-use Rattle.resync.proofs.calls.check_turns.Lts as lts
 
 returns : tie.Need-returns
 returns c = sym (turns-few (c .before .args .turns) (omega (arith, c .if1 .taken)))

@@ -3,9 +3,6 @@ use Rattle.resync.proofs.Results.{figures-refused, figures-read}
 use borrow.Author.Needs.{needs}
 use Rattle.resync.proofs.calls.figures.Statement.{statement}
 use Rattle.resync.proofs.calls.figures.Tie as tie
-use Rattle.resync.proofs.calls.figures.Reads as reads
-use Rattle.resync.proofs.calls.figures.Lts as lts
-use Rattle.resync.proofs.calls.told.Reads as told-reads
 
 accept-requires : tie.Need-accept-requires
 accept-requires c κs = search needs

@@ -7,11 +7,6 @@ use Rattle.resync.proofs.Results.{delays-told, delays-room, delays-kept
 use borrow.Author.Needs.{needs}
 use Rattle.resync.proofs.calls.least_delays.Statement.{statement}
 use Rattle.resync.proofs.calls.least_delays.Tie as tie
-use Rattle.resync.proofs.calls.least_delays.Reads as reads
-use Rattle.resync.proofs.calls.least_delays.Lts as lts
-use Rattle.delays.proofs.least_table.Reads as least-table-reads
-use Rattle.resync.proofs.calls.told.Reads as told-reads
-use Rattle.resync.proofs.calls.with_room.Reads as with-room-reads
 
 accept-requires : tie.Need-accept-requires
 accept-requires c κs = search needs

@@ -3,8 +3,6 @@ use mathlib.Core.Path.{refl}
 use Rattle.resync.specs.Calls.{noMarks}
 use Rattle.resync.proofs.calls.no_marks.Statement.{statement}
 use Rattle.resync.proofs.calls.no_marks.Tie as tie
-use Rattle.resync.proofs.calls.no_marks.Reads as reads
-use Rattle.resync.proofs.calls.no_marks.Lts as lts
 
 returns : tie.Need-returns
 unfolding noMarks

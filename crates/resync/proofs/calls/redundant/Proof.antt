@@ -10,14 +10,6 @@ use Rattle.resync.proofs.Results.{redundant-refused, redundant-read, ta
 use borrow.Author.Needs.{needs}
 use Rattle.resync.proofs.calls.redundant.Statement.{statement}
 use Rattle.resync.proofs.calls.redundant.Tie as tie
-use Rattle.resync.proofs.calls.redundant.Reads as reads
-use Rattle.resync.proofs.calls.redundant.Lts as lts
-use Rattle.delays.proofs.least_table.Reads as least-table-reads
-use Rattle.marks.proofs.count.Reads as count-reads
-use Rattle.redundancy.proofs.redundant_marks.Reads as redundant-marks-reads
-use Rattle.resync.proofs.calls.blank_table.Reads as blank-table-reads
-use Rattle.resync.proofs.calls.no_marks.Reads as no-marks-reads
-use Rattle.resync.proofs.calls.told.Reads as told-reads
 
 accept-requires : tie.Need-accept-requires
 accept-requires c κs = search needs

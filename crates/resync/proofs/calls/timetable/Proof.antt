@@ -16,11 +16,6 @@ use Rattle.resync.proofs.Results.{turns-told, turns-kept, timetable-tol
 use borrow.Author.Needs.{needs}
 use Rattle.resync.proofs.calls.timetable.Statement.{statement}
 use Rattle.resync.proofs.calls.timetable.Tie as tie
-use Rattle.resync.proofs.calls.timetable.Reads as reads
-use Rattle.resync.proofs.calls.timetable.Lts as lts
-use Rattle.resync.proofs.calls.check_turns.Reads as check-turns-reads
-use Rattle.resync.proofs.calls.told.Reads as told-reads
-use Rattle.resync.proofs.calls.with_room.Reads as with-room-reads
 
 check-turns-requires : tie.Need-check-turns-requires
 check-turns-requires c κs = search needs

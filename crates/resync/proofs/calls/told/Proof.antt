@@ -3,8 +3,6 @@ use mathlib.Core.Path.{refl}
 use Rattle.resync.specs.Calls.{outcome}
 use Rattle.resync.proofs.calls.told.Statement.{statement}
 use Rattle.resync.proofs.calls.told.Tie as tie
-use Rattle.resync.proofs.calls.told.Reads as reads
-use Rattle.resync.proofs.calls.told.Lts as lts
 
 returns : tie.Need-returns
 unfolding outcome

@@ -4,8 +4,6 @@ use native.Mathlib.Omega.{arith}
 use Rattle.resync.proofs.Checked.{refused-earlier, too-short, long-enough}
 use Rattle.resync.proofs.calls.with_room.Statement.{statement}
 use Rattle.resync.proofs.calls.with_room.Tie as tie
-use Rattle.resync.proofs.calls.with_room.Reads as reads
-use Rattle.resync.proofs.calls.with_room.Lts as lts
 
 returns : tie.Need-returns
 returns c = let args = c .before .before .args in sym (refused-earlier (args .earlier) (args .needed) (args .room) (c .if1 .taken))
