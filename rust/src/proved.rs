@@ -58,7 +58,7 @@ pub struct Outcome {
 /// A graph's figures. If it is refused, everything but the outcome is 0.
 #[repr(C)]
 #[derive(Clone, Copy, Debug, PartialEq, Eq)]
-pub struct Figures {
+pub struct GraphFigures {
     pub outcome: Outcome,
     pub tasks: u32,
     /// Edges of the file, without the processor edges.
@@ -95,7 +95,7 @@ pub struct Places {
 const _: () = assert!(size_of::<GraphReading>() == 7 * 4 + 64 + 2 * 64 + 3 * 320);
 const _: () = assert!(size_of::<ProposalReading>() == 3 * 4 + 3 * 256);
 const _: () = assert!(size_of::<Outcome>() == 4 * 4);
-const _: () = assert!(size_of::<Figures>() == 4 * 4 + 3 * 4);
+const _: () = assert!(size_of::<GraphFigures>() == 4 * 4 + 3 * 4);
 const _: () = assert!(size_of::<Marks>() == 4 * 8);
 const _: () = assert!(size_of::<RedundantSet>() == 4 * 4 + 4 * 8 + 4 + 4);
 const _: () = assert!(size_of::<Places>() == 4 + 256 * 4);
@@ -103,7 +103,7 @@ const _: () = assert!(size_of::<Places>() == 4 + 256 * 4);
 extern "C" {
     fn resync_read_graph(file: *const u8, length: usize) -> GraphReading;
     fn resync_read_proposal(file: *const u8, length: usize, tasks: usize) -> ProposalReading;
-    fn resync_figures(file: *const u8, length: usize) -> Figures;
+    fn resync_figures(file: *const u8, length: usize) -> GraphFigures;
     fn resync_least_delays(file: *const u8, length: usize, table: *mut u16, room: usize)
         -> Outcome;
     fn resync_redundant(file: *const u8, length: usize) -> RedundantSet;
@@ -130,7 +130,7 @@ pub fn read_proposal(file: &[u8], tasks: usize) -> ProposalReading {
 }
 
 /// Tasks, edges and latency of a graph file.
-pub fn figures(file: &[u8]) -> Figures {
+pub fn figures(file: &[u8]) -> GraphFigures {
     // SAFETY: pointer and length are those of a slice; the call keeps neither.
     unsafe { resync_figures(file.as_ptr(), file.len()) }
 }

@@ -5,6 +5,7 @@
 mod generator;
 
 use generator::damage::{flip, BYTE_DAMAGES, GRAPH_DAMAGES, PROPOSAL_DAMAGES};
+use generator::desk::{edge, flipped_desks, shown, DESK};
 use generator::Generator;
 use resync::checker::{self, Edge, Graph, GraphFields, ProposalFields, Task};
 use resync::checker::{write_graph, write_proposal};
@@ -27,10 +28,6 @@ const TASK_COUNTS: [usize; 12] = [
     usize::MAX,
 ];
 
-const DESK: [u8; 25] = [
-    0x08, 0x40, 0x18, 0x01, 0x80, 0x00, 0x0C, 0x00, 0x00, 0x20, 0x00, 0x03, 0x10, 0x00, 0x11, 0x00,
-    0x04, 0x00, 0x20, 0x00, 0x43, 0x00, 0x00, 0x30, 0x00,
-];
 const PROPOSAL: [u8; 5] = [0x08, 0x04, 0x04, 0x20, 0x00];
 
 // ---- Comparing ----
@@ -102,12 +99,6 @@ fn expected_proposal(file: &[u8], tasks: usize) -> ProposalReading {
         reading.delay[entry] = edge.delay as u8;
     }
     reading
-}
-
-/// The file in hexadecimal, as much of it as matters.
-fn shown(file: &[u8]) -> String {
-    let bytes: Vec<String> = file.iter().take(900).map(|b| format!("{b:02X}")).collect();
-    format!("{} bytes: {}", file.len(), bytes.join(" "))
 }
 
 fn compare_graph(case: &str, file: &[u8]) -> GraphReading {
@@ -252,15 +243,8 @@ fn many_graphs() {
         tally.graph("several damages", &file);
     }
 
-    for one in 0..8 * DESK.len() {
-        for other in one..8 * DESK.len() {
-            let mut file = DESK;
-            flip(&mut file, one);
-            if other != one {
-                flip(&mut file, other);
-            }
-            tally.graph("example desk, every one or two bits flipped", &file);
-        }
+    for file in flipped_desks() {
+        tally.graph("example desk, every one or two bits flipped", &file);
     }
 
     // Every count of edges at many counts of tasks, in files of the length it needs, one byte less, one byte more.
@@ -385,14 +369,6 @@ fn many_proposals() {
 }
 
 // ---- Named files, with the answers of document 01 ----
-
-fn edge(source: usize, sink: usize, delay: usize) -> Edge {
-    Edge {
-        source,
-        sink,
-        delay,
-    }
-}
 
 /// Tasks 0 to 4 on processors 0, 0, 1, 1, 2 and six edges: 11 records, so the last byte has filling bits.
 fn small() -> GraphFields {

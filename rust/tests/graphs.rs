@@ -5,19 +5,15 @@
 
 mod generator;
 
-use generator::damage::{flip, BYTE_DAMAGES, GRAPH_DAMAGES};
+use generator::damage::{BYTE_DAMAGES, GRAPH_DAMAGES};
+use generator::desk::{edge, flipped_desks, shown, DESK};
 use generator::desks::FAULTS;
 use generator::Generator;
 use resync::checker::{self, write_graph, Edge, Graph, GraphFields, Task};
-use resync::proved::{self, Figures, Marks, Outcome, Places, RedundantSet};
+use resync::proved::{self, GraphFigures, Marks, Outcome, Places, RedundantSet};
 use resync::schedule;
 use std::fmt::Debug;
 use std::io::Write;
-
-const DESK: [u8; 25] = [
-    0x08, 0x40, 0x18, 0x01, 0x80, 0x00, 0x0C, 0x00, 0x00, 0x20, 0x00, 0x03, 0x10, 0x00, 0x11, 0x00,
-    0x04, 0x00, 0x20, 0x00, 0x43, 0x00, 0x00, 0x30, 0x00,
-];
 
 /// Numbers of turns that refusal 17 is for. Cut to 8, 16 or 32 bits, some would be right.
 const WRONG_TURNS: [usize; 16] = [
@@ -96,8 +92,8 @@ impl Case<'_> {
         }
     }
 
-    fn compare_figures(&self) -> Figures {
-        let mut expected = Figures {
+    fn compare_figures(&self) -> GraphFigures {
+        let mut expected = GraphFigures {
             outcome: outcome(0, 0),
             tasks: 0,
             edges: 0,
@@ -229,12 +225,6 @@ fn expected_places(places: &[usize]) -> Places {
         expected.place[entry] = place as u32;
     }
     expected
-}
-
-/// The file in hexadecimal, as much of it as matters.
-fn shown(file: &[u8]) -> String {
-    let bytes: Vec<String> = file.iter().take(900).map(|b| format!("{b:02X}")).collect();
-    format!("{} bytes: {}", file.len(), bytes.join(" "))
 }
 
 /// How often each refusal was reached by each call; entry 0 counts the calls that succeed.
@@ -464,17 +454,10 @@ fn many_damaged_files() {
         tally.every_call(g, "several damages", &file, &turns);
     }
 
-    for one in 0..8 * DESK.len() {
-        for other in one..8 * DESK.len() {
-            let mut file = DESK;
-            flip(&mut file, one);
-            if other != one {
-                flip(&mut file, other);
-            }
-            let turns = turns(g);
-            let name = "example desk, every one or two bits flipped";
-            tally.every_call(g, name, &file, &turns);
-        }
+    for file in flipped_desks() {
+        let turns = turns(g);
+        let name = "example desk, every one or two bits flipped";
+        tally.every_call(g, name, &file, &turns);
     }
     tally.close(20_000, &[1, 2, 3, 4, 5, 6, 7, 8, 9, 10, 11, 12, 16, 17]);
 }
@@ -583,14 +566,6 @@ fn places_of_any_marks() {
 
 // ---- Named graphs, with the answers of document 01 ----
 
-fn edge(source: usize, sink: usize, delay: usize) -> Edge {
-    Edge {
-        source,
-        sink,
-        delay,
-    }
-}
-
 /// Both sides, in all calls with 64 turns and long lists, must give this refusal, 0 and 0 for none.
 fn gets(name: &str, file: &[u8], number: usize, place: usize) {
     let case = Case::new(name, file);
@@ -606,7 +581,7 @@ fn gets(name: &str, file: &[u8], number: usize, place: usize) {
 #[test]
 fn example_desk() {
     let case = Case::new("example desk", &DESK);
-    let figures = Figures {
+    let figures = GraphFigures {
         outcome: outcome(0, 0),
         tasks: 4,
         edges: 3,

@@ -4,6 +4,7 @@
 #![allow(dead_code)]
 
 pub mod damage;
+pub mod desk;
 pub mod desks;
 
 use resync::checker::{Edge, Graph, Task};
