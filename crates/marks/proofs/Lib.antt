@@ -4,3 +4,4 @@ pub mod Example
 pub mod Laws
 pub mod Leading
 pub mod Listing
+pub mod Listed

@@ -21,7 +21,7 @@ unfolding put counted
 length-put true x = refl
 length-put false x = refl
 
-length-places : (n : ℕ) (marked : ℕ → Bool) → length (placesBelow n marked) ≡ setBelow n marked
+pub length-places : (n : ℕ) (marked : ℕ → Bool) → length (placesBelow n marked) ≡ setBelow n marked
 unfolding placesBelow setBelow sumOver
 length-places zero marked = refl
 length-places (suc n) marked = rw (length-append (placesBelow n marked), length-places n marked, length-put (marked n))

@@ -3,11 +3,11 @@
 use mathlib.Core.Path.{_≡_, refl, sym, ap, _∙_, subst}
 use mathlib.Core.Logic.{_⊎_, inl, inr, _≢_}
 use mathlib.Core.Bool.{Bool, false}
-use mathlib.Core.List.{List}
-use Prim.Native.Nat.{ℕ, zero, suc, _-_, _*_, _/_, _%_, _^_, _≤_, zero-le}
+use mathlib.Core.List.{List, List·Memᴰ}
+use Prim.Native.Nat.{ℕ, zero, suc, _-_, _*_, _/_, _%_, _^_, _≤_, _<_, zero-le}
 use native.Mathlib.Nat.{zero-div}
 use native.Mathlib.Omega.{arith}
-use lib.Dec.{eqb}
+use lib.Dec.{T, eqb}
 use lib.ListN.{length, getD}
 use Rattle.model.specs.Tasks.{Ends}
 use Rattle.model.specs.Graph.{count, edges, timeOf}
@@ -16,20 +16,23 @@ use Rattle.model.specs.Paths.{Redundant, Latency}
 use Rattle.model.specs.Runs.{Earliest, estimates}
 use Rattle.model.specs.Compute.{leastDelay, isRedundant, earliest, latencyOf}
 use Rattle.model.specs.Theorems.{Decides}
+use Rattle.model.proofs.Basics.{is-true}
+use Rattle.model.proofs.Tests.{decides-true}
 use Rattle.model.proofs.Graphs.{graph-ends}
 use Rattle.model.proofs.Theorems.{least-delay-is, least-unique, least-bound, redundant-is, earliest-run, earliest-unique, latency-is}
 use Rattle.files.specs.Files.{graphOf}
 use Rattle.files.proofs.First.{zero-or-not}
 use Rattle.readings.proofs.Answers.{if-passed, if-refused}
 use Rattle.marks.specs.declared.Marks.{Marks}
-use Rattle.marks.specs.Marks.{marksOf, bitOf, markAt, setBelow}
+use Rattle.marks.specs.Marks.{marksOf, bitOf, markAt, setBelow, placesBelow}
 use Rattle.marks.proofs.Laws.{mark-of, count-of, set-below-past}
+use Rattle.marks.proofs.Listed.{places-are}
 use Rattle.delays.specs.Delays.{entry}
 use Rattle.schedule.specs.Schedule.{acceptanceRefusal}
 use Rattle.schedule.proofs.Fronts.{graph-fit}
 use Rattle.schedule.proofs.Judged.{accepted-iff-passed}
 use Rattle.resync.specs.Calls.{tasksOf, figuresOf, noMarks, redundantOf}
-use Rattle.resync.specs.Theorems.{AcceptedFile, FiguresGiven, RedundantGiven, DelaysGiven, TimetableGiven, DelaysShort, TimetableShort, TurnsOutside, DelaysKept, TimetableKept, DelaysPast, TimetablePast, FiguresMean, DelaysMean, DelaysSmall, RedundantMean, RedundantCounted, TimetableMean, TimetableRuns}
+use Rattle.resync.specs.Theorems.{AcceptedFile, FiguresGiven, RedundantGiven, DelaysGiven, TimetableGiven, DelaysShort, TimetableShort, TurnsOutside, DelaysKept, TimetableKept, DelaysPast, TimetablePast, FiguresMean, DelaysMean, DelaysSmall, RedundantMean, RedundantCounted, RedundantListed, TimetableMean, TimetableRuns}
 use Rattle.resync.proofs.Given
 use Rattle.resync.proofs.Written
 use Rattle.resync.proofs.Written.{table-at, starts-at}
@@ -111,6 +114,21 @@ redundant-mean s accepted i l =
     subst (λ (b : Bool). Decides b (Redundant (graphOf s) i))
     (sym (ap (λ (m : Marks). markAt m i) (if-passed (acceptanceRefusal s .number) (marksOf marked) noMarks none) ∙ mark-of marked i l))
     (redundant-is (graphOf s) (accepted .1 .formed .syncs-formed .ends) i)
+
+pub redundant-listed : RedundantListed
+redundant-listed s accepted p = (to, back)
+  where
+    to : List·Memᴰ p (placesBelow 256 (markAt (redundantOf s .marks))) → (1 ≤ p) × Redundant (graphOf s) (p - 1)
+    to m =
+        let h = places-are 256 (markAt (redundantOf s .marks)) p .0 m in
+        (h .0, redundant-mean s accepted (p - 1) (omega (arith, h .0, h .1)) .if-true (subst T (sym (h .2)) tt))
+
+    back : (1 ≤ p) × Redundant (graphOf s) (p - 1) → List·Memᴰ p (placesBelow 256 (markAt (redundantOf s .marks)))
+    back (low, redundant) =
+        let few : length (graphOf s .syncs) ≤ 256 = accepted .1 .formed .syncs-formed .few in
+        let below : p - 1 < 256 = omega (arith, redundant .0) in
+        places-are 256 (markAt (redundantOf s .marks)) p .1
+        (low, omega (arith, low, below), is-true (markAt (redundantOf s .marks) (p - 1)) (decides-true (redundant-mean s accepted (p - 1) below) redundant))
 
 -- ── Marks ──
 

@@ -1,7 +1,7 @@
 -- What the answers of the calls on a graph mean, as statements: paths and runs. proofs/Meanings.antt proves them.
 use mathlib.Core.Path.{_≡_}
 use mathlib.Core.Logic.{_↔_, _⊎_}
-use mathlib.Core.List.{List}
+use mathlib.Core.List.{List, List·Memᴰ}
 use mathlib.Core.Option.{Option, some}
 use Prim.Native.Nat.{ℕ, _+_, _-_, _*_, _≤_, _<_}
 use lib.ListN.{length, getD}
@@ -11,7 +11,7 @@ use Rattle.model.specs.Runs.{Times, Earliest, estimates}
 use Rattle.model.specs.Proposals.{AcceptedGraph}
 use Rattle.model.specs.Theorems.{Decides}
 use Rattle.files.specs.Files.{graphOf, graphRefusal}
-use Rattle.marks.specs.Marks.{markAt, setBelow}
+use Rattle.marks.specs.Marks.{markAt, setBelow, placesBelow}
 use Rattle.delays.specs.Delays.{entry}
 use Rattle.schedule.specs.Schedule.{acceptanceRefusal}
 use Rattle.resync.specs.Calls.{tasksOf, figuresOf, delaysRefusal, delaysAfter, redundantOf, timetableRefusal, timetableAfter}
@@ -97,6 +97,12 @@ RedundantMean =
 
 abbrev pub RedundantCounted : Type 0
 RedundantCounted = (s : List ℕ) → redundantOf s .count ≡ setBelow 256 (markAt (redundantOf s .marks))
+
+-- A place is listed exactly if it is that of a redundant edge.
+abbrev pub RedundantListed : Type 0
+RedundantListed =
+    (s : List ℕ) → AcceptedFile s → (p : ℕ) →
+    List·Memᴰ p (placesBelow 256 (markAt (redundantOf s .marks))) ↔ ((1 ≤ p) × Redundant (graphOf s) (p - 1))
 
 -- The element of turn k and task v is the start in the earliest run at the estimated times, of every turn.
 abbrev pub TimetableMean : Type 0
