@@ -1,4 +1,5 @@
--- The lemmas behind the proofs of the functions.
+-- The proofs that other crates may cite.
 pub mod Steps
 pub mod Round
 pub mod Row
+pub mod Table

@@ -78,7 +78,3 @@ module _ (es : List Edge) (from : ℕ) (row : List ℕ) (settled : (e : Edge) �
           finish : (65535 ≤ getD row b 0) ⊎ (getD row b 0 < 65535) → getD row b 0 ≡ 65535
           finish (inl above) = le-antisymm (held .small b) above
           finish (inr finite) = absurd (never (getD row b 0) (held .paths b (subst (λ (m : ℕ). b < m) (sym size) l) finite))
-
-pub row-length : (n : ℕ) (es : List Edge) (a : ℕ) → length (delayRow n es a) ≡ n
-unfolding delayRow
-row-length n es a = length-tabulate n (λ b. entry (leastDelay n es a b))

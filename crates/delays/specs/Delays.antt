@@ -20,7 +20,8 @@ delayRow n es a = tabulate n (λ b. entry (leastDelay n es a b))
 unfoldable pub delayTable : ℕ → List Edge → List ℕ
 delayTable n es = rows n (delayRow n es)
 
--- Edges between n tasks whose delays are at most 255, as every graph's are: then no least delay is 65,535.
+-- Only for contracts inside: edges between n tasks whose delays are at most 255, as every graph's are. Of at most 64 tasks no least delay is 65,535
+-- then.
 pub record Fit (n : ℕ) (es : List Edge) : Type 0 where
   pub ends : Ends n es
   pub delays : (e : Edge) → e ∈ es → e .delay ≤ 255

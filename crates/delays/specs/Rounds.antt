@@ -1,5 +1,4 @@
--- What one round over the edges does to a row of delays from one task, for the contracts of the steps. Nothing here has to be believed: the row
--- that comes out is said to be `delayRow`.
+-- Only for contracts inside: what one round over the edges does to a row of delays from one task.
 use mathlib.Core.Path.{_≡_}
 use mathlib.Core.Bool.{Bool, true, false}
 use mathlib.Core.List.{List, [], _∷_}
@@ -12,6 +11,7 @@ use Rattle.model.specs.Paths.{Path}
 abbrev pub edge : ℕ → ℕ → ℕ → Edge
 edge source sink delay = record { source = source; sink = sink; delay = delay }
 
+-- the sum of a list
 unfoldable pub sum : List ℕ → ℕ
 sum [] = 0
 sum (x ∷ xs) = x + sum xs

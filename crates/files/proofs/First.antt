@@ -11,7 +11,7 @@ use Rattle.model.specs.Lists.{tabulate}
 use Rattle.model.proofs.Basics.{below-suc}
 use Rattle.model.proofs.Tests.{decided, eqb-decides}
 use Rattle.files.specs.declared.Refusal.{Refusal}
-use Rattle.files.specs.Refusals.{notRefused, refuse, choose, first}
+use Rattle.files.specs.Refusals.{notRefused, refuse, choose, first, ifPassed}
 use Rattle.files.specs.Files.{firstOf}
 
 pub choose-later : (n : ℕ) (r later : Refusal) → n ≡ 0 → choose n r later ≡ later
@@ -132,3 +132,14 @@ last-answer rs = go (zero-or-not (first rs .number))
     go : (first rs .number ≡ 0) ⊎ (first rs .number ≢ 0) → first (first rs ∷ []) ≡ first rs
     go (inl z) = passes (first rs) [] z ∙ (no-checks ∙ sym (none-refused rs z))
     go (inr s) = stops (first rs) [] s
+
+-- ── What is handed over ──
+
+pub if-passed : {A : Type 0} (n : ℕ) (given refused : A) → n ≡ 0 → ifPassed n given refused ≡ given
+unfolding ifPassed
+if-passed n given refused none = ap (λ (m : ℕ). ifPassed m given refused) none
+
+pub if-refused : {A : Type 0} (n : ℕ) (given refused : A) → n ≢ 0 → ifPassed n given refused ≡ refused
+unfolding ifPassed
+if-refused zero given refused some = absurd (some refl)
+if-refused (suc n) given refused some = refl

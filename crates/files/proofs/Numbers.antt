@@ -1,15 +1,14 @@
 -- The refusals of a file are numbers up to 8: a chain of checks gives none above all of its numbers.
-use mathlib.Core.Path.{_≡_, sym, ap, _∙_, subst}
+use mathlib.Core.Path.{_≡_, sym, subst}
 use mathlib.Core.Logic.{_⊎_, inl, inr, _≢_}
 use mathlib.Core.Bool.{Bool, true, false}
 use mathlib.Core.List.{List, [], _∷_, _++_}
 use Prim.Native.Nat.{ℕ, zero, suc, _≤_, zero-le}
 use lib.Dec.{lit≤}
-use lib.ListN.{length}
 use Rattle.model.specs.Lists.{tabulate}
 use Rattle.files.specs.declared.Refusal.{Refusal}
 use Rattle.files.specs.Refusals.{refuse, first}
-use Rattle.files.specs.Files.{firstOf, graphOf, graphHeaderRefusal, lengthRefusal, fillingRefusal, headerEndsRefusal, graphFrameRefusal, timeRefusal, endsRefusal, edgeRefusal, repeatRefusal, graphRecordsRefusal, graphRefusal}
+use Rattle.files.specs.Files.{firstOf, graphHeaderRefusal, lengthRefusal, fillingRefusal, headerEndsRefusal, graphFrameRefusal, timeRefusal, endsRefusal, edgeRefusal, repeatRefusal, graphRecordsRefusal, graphRefusal}
 use Rattle.files.proofs.First.{passes, stops, no-checks, number-same, zero-or-not, passed-all, stopped-before}
 
 module _ (limit : ℕ) where

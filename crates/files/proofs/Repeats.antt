@@ -1,27 +1,23 @@
 -- 8's test and its refusal, and the comparison of two edges by the numbers that the lists hold of them: the test is true exactly if some earlier
 -- edge is the same.
-use mathlib.Core.Path.{_≡_, refl, sym, ap, _∙_, subst}
-use mathlib.Core.Bool.{Bool, true, false, _&&_}
+use mathlib.Core.Path.{_≡_, sym, ap, _∙_, subst}
+use mathlib.Core.Bool.{true, false, _&&_}
 use mathlib.Core.List.{List}
 use Prim.Native.Nat.{ℕ, suc, _+_, _<_}
 use native.Mathlib.Numerals.{add-one}
 use native.Mathlib.Omega.{arith}
-use lib.Dec.{T, eqb}
+use lib.Dec.{eqb}
 use lib.ListN.{length, getD}
 use Rattle.model.specs.Tasks.{Edge}
 use Rattle.model.specs.Compute.{sameEdge}
 use Rattle.model.proofs.Basics.{any-in, any-out}
-use Rattle.model.proofs.Tests.{same-edge, decides-iff, decides-true}
+use Rattle.model.proofs.Tests.{same-edge, decides-iff, decides-true, decides-yes}
 use Rattle.files.specs.Theorems.{RepeatsEarlierIs}
 use Rattle.files.specs.Refusals.{notRefused}
 use Rattle.files.specs.Files.{edgeIn, repeatsEarlier, repeatRefusal}
 use Rattle.records.specs.Columns.{SourcesOf, SinksOf, DelaysOf}
 use Rattle.files.proofs.First.{refused, not-refused}
 use Rattle.files.proofs.Single.{refusal}
-
-is-true : (b : Bool) → T b → b ≡ true
-is-true true t = refl
-is-true false t = absurd t
 
 pub repeats-earlier-is : RepeatsEarlierIs
 unfolding repeatsEarlier
@@ -33,7 +29,7 @@ repeats-earlier-is es j =
     (λ r. any-in j (λ i. sameEdge (edgeIn es i) (edgeIn es j)) (r .0) (r .1) (decides-true (same-edge (edgeIn es (r .0)) (edgeIn es j)) (r .2)))
 
 pub repeats : (es : List Edge) (j i : ℕ) → i < j → edgeIn es i ≡ edgeIn es j → repeatsEarlier es j ≡ true
-repeats es j i earlier same = is-true (repeatsEarlier es j) (decides-true (repeats-earlier-is es j) (i, earlier, same))
+repeats es j i earlier same = decides-yes (repeats-earlier-is es j) (i, earlier, same)
 
 -- the check from the test
 pub repeat-stops : (es : List Edge) (j : ℕ) → repeatsEarlier es j ≡ true → repeatRefusal es j ≡ refusal 8 (j + 1)

@@ -23,3 +23,8 @@ unfoldable pub first : List Refusal → Refusal
 unfolding choose
 first [] = notRefused
 first (r ∷ rs) = choose (r .number) r (first rs)
+
+-- what a call hands over: one thing if the number says that nothing is refused, another if it is
+unfoldable pub ifPassed : {A : Type 0} → ℕ → A → A → A
+ifPassed zero given refused = given
+ifPassed (suc n) given refused = refused

@@ -1,18 +1,18 @@
 -- Marks put into words are read back. How many of the first n marks are set, and where, depends on these alone and goes block by block, by induction on n;
 -- so the marks set in four words are the ones of the words.
-use mathlib.Core.Path.{_≡_, refl, sym, ap, ap₂, _∙_}
+use mathlib.Core.Path.{_≡_, refl, sym, ap, _∙_}
 use mathlib.Core.Logic.{_⊎_, inl, inr}
 use mathlib.Core.Bool.{Bool, false}
-use mathlib.Core.List.{List, _++_, append-nil}
+use mathlib.Core.List.{append-nil}
 use Prim.Native.Nat.{ℕ, zero, suc, _+_, _-_, _*_, _/_, _%_, _^_, _≤_, _<_}
 use native.Mathlib.Nat.{le-refl, add-zero, add-suc}
 use native.Mathlib.Omega.{arith}
 use lib.Count.{ones}
-use lib.ListN.{getD, replicate}
+use lib.ListN.{getD}
 use Rattle.model.specs.Lists.{put, counted, sumOver}
 use Rattle.model.proofs.Basics.{order, sum-ones}
 use Rattle.marks.specs.declared.Marks.{Marks}
-use Rattle.marks.specs.Marks.{number, wordOf, marksOf, bitOf, markAt, FirstSet, setBelow, placesBelow, placesOf}
+use Rattle.marks.specs.Marks.{number, wordOf, marksOf, bitOf, markAt, FirstSet, setBelow, placesBelow}
 use Rattle.marks.proofs.Digits.{digitAt, digit-of, bit-digit, ones-digits}
 
 -- ── Marks put into words ──
@@ -44,21 +44,8 @@ set-below-same zero f g same = refl
 set-below-same (suc n) f g same =
     rw (set-below-same n f g (λ i l. same i (omega arith)), same n (le-refl (suc n)))
 
-pub places-below-same : (n : ℕ) (f g : ℕ → Bool) → ((i : ℕ) → i < n → f i ≡ g i) → placesBelow n f ≡ placesBelow n g
-unfolding placesBelow
-places-below-same zero f g same = refl
-places-below-same (suc n) f g same =
-    rw (places-below-same n f g (λ i l. same i (omega arith)), same n (le-refl (suc n)))
-
 pub count-of : (marked : ℕ → Bool) → setBelow 256 (markAt (marksOf marked)) ≡ setBelow 256 marked
 count-of marked = set-below-same 256 (markAt (marksOf marked)) marked (mark-of marked)
-
-pub places-of : (marked : ℕ → Bool) → placesOf (markAt (marksOf marked)) ≡ placesOf marked
-unfolding placesOf
-places-of marked =
-    ap₂ (λ (n : ℕ) (xs : List ℕ). record { count = n; place = xs ++ replicate (256 - n) 0 })
-    (count-of marked)
-    (places-below-same 256 (markAt (marksOf marked)) marked (mark-of marked))
 
 -- ── Block by block ──
 

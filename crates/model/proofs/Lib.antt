@@ -1,3 +1,4 @@
+-- The proofs that other crates may cite.
 pub mod Basics
 pub mod Walks
 pub mod Least

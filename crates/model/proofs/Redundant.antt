@@ -42,7 +42,7 @@ module _ (g : Graph) (bounds : Ends (count g) (g .syncs)) (i : ℕ) where
 
   -- another way holds the order without the edge
   way-held : NoZeroCycle (edges g) → OtherWay g i (syncAt g i) → OrderHeld (edgesWithout g i) (syncAt g i)
-  way-held acyclic x = held (x .3)
+  way-held acyclic x = held (x .2 .within)
     where
       e : Edge
       e = syncAt g i
@@ -54,8 +54,8 @@ module _ (g : Graph) (bounds : Ends (count g) (g .syncs)) (i : ℕ) where
       least-path (smallest r h) = r
 
       held : ((f .sink ≡ e .sink) × (f .delay ≤ e .delay)) ⊎ ((d : ℕ) × Least (edges g) (f .sink) (e .sink) (some d) × (f .delay + d ≤ e .delay)) → OrderHeld (edgesWithout g i) e
-      held (inl h) = path-held within-bounds e (path-ends (x .2) (h .0) (path-edge (x .1))) (h .1)
-      held (inr h) = path-held within-bounds e (bypass acyclic f (x .1) (x .2) (least-path (h .1)) (h .2)) (h .2)
+      held (inl h) = path-held within-bounds e (path-ends (x .2 .same-source) (h .0) (path-edge (x .1))) (h .1)
+      held (inr h) = path-held within-bounds e (bypass acyclic f (x .1) (x .2 .same-source) (least-path (h .1)) (h .2)) (h .2)
 
   -- the first edge of a bypass, and a least path for the rest of it
   other-way : (e : Edge) {d : ℕ} → Path (edgesWithout g i) (e .source) (e .sink) d → d ≤ e .delay → OtherWay g i e
@@ -63,7 +63,7 @@ module _ (g : Graph) (bounds : Ends (count g) (g .syncs)) (i : ℕ) where
   other-way e {d} r l = from (r .walk) (r .sum)
     where
       from : {f : Edge} {p : List Edge} → Walk (edgesWithout g i) (e .source) (f ∷ p) (e .sink) → f .delay + total p ≡ d → OtherWay g i e
-      from (step {e = f} {p = p} m s w) q = (f, m, s, rest (walk-path w))
+      from (step {e = f} {p = p} m s w) q = (f, m, record { same-source = s; within = rest (walk-path w) })
         where
           least-within : {o : Option ℕ} → Least (edges g) (f .sink) (e .sink) o → Path (edges g) (f .sink) (e .sink) (total p) →
               (d : ℕ) × Least (edges g) (f .sink) (e .sink) (some d) × (f .delay + d ≤ e .delay)

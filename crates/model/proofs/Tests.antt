@@ -1,7 +1,7 @@
 -- Each test of Compute decides its meaning. From the least delay: it is at most a number exactly if some path's delay is.
 use mathlib.Core.Path.{_≡_, refl, ap}
 use mathlib.Core.Logic.{_⊎_, inl, inr}
-use mathlib.Core.Bool.{Bool, not, _&&_}
+use mathlib.Core.Bool.{Bool, true, false, not, _&&_}
 use mathlib.Core.List.{List, [], _∷_, List·Memᴰ·head as here, Memᴰ·cast}
 use mathlib.Core.Option.{Option, some}
 use Prim.Native.Nat.{ℕ, _≤_, _<_}
@@ -13,7 +13,7 @@ use Rattle.model.specs.Tasks.{Edge, _∈_, Ends}
 use Rattle.model.specs.Paths.{Path, Least, smallest, no-path, OrderHeld, OnCycle, ZeroCycle, InputFree, Joined}
 use Rattle.model.specs.Compute.{atMost, present, orderHolds, onCycle, zeroPath, zeroCycle, intoAtOnce, nonEmpty, inputFree, joined, sameEdge, distinct}
 use Rattle.model.specs.Theorems.{Decides, DistinctIs, InputFreeIs}
-use Rattle.model.proofs.Basics.{cases, every-in, every-out, keep-in, keep-out, and-left, and-right, and-both, eq→eqb, any-in, any-out}
+use Rattle.model.proofs.Basics.{cases, is-true, is-false, every-in, every-out, keep-in, keep-out, and-left, and-right, and-both, eq→eqb, any-in, any-out}
 use Rattle.model.proofs.Walks.{edge-equal, path-delay, path-start-below, cycle-back, back-cycle, path-cycle, cycle-path}
 use Rattle.model.proofs.Least.{least-delay}
 
@@ -32,6 +32,13 @@ decides-true {b} {p} d x = go (cases b)
 
 pub decides-not : {b : Bool} {p : Type 0} → Decides b p → Decides (not b) (p → ⊥)
 decides-not {b} d = decides-iff (λ n x. d .if-false n x) (λ f. not-T b (λ t. f (d .if-true t)))
+
+-- a test that holds, or not, as an equation
+pub decides-yes : {b : Bool} {p : Type 0} → Decides b p → p → b ≡ true
+decides-yes {b} d h = is-true b (decides-true d h)
+
+pub decides-no : {b : Bool} {p : Type 0} → Decides b p → (p → ⊥) → b ≡ false
+decides-no {b} d h = is-false b (decides-true (decides-not d) h)
 
 pub decides-and : {a b : Bool} {p q : Type 0} → Decides a p → Decides b q → Decides (a && b) (p × q)
 decides-and {a} {b} c d =

@@ -1,6 +1,6 @@
--- Functions on lists and on numbers below a limit. The first four, `put` to `keepPlaces`, are part of definitions to believe here (what a result
--- keeps, an edge removed by its place, edges dropped by their places), and `tabulate` and `anyBelow` of those of files; the others serve what
--- computes, and sums in bounds.
+-- Functions on lists and on numbers below a limit. Part of definitions to believe are the first four, `put` to `keepPlaces` (what a result keeps, an
+-- edge removed by its place, edges dropped by their places; `put` also in lists of places), `tabulate` and `anyBelow` (files), `counted` and `sumOver`
+-- (marks set); the others serve what computes, and sums in bounds.
 use mathlib.Core.Bool.{Bool, true, false, _&&_, _||_}
 use mathlib.Core.List.{List, [], _∷_, _++_}
 use mathlib.Core.Option.{Option, none, some}
@@ -62,6 +62,7 @@ unfolding orElse
 firstFrom t v zero = none
 firstFrom t v (suc f) = orElse (t v) v (firstFrom t (suc v) f)
 
+-- a number, if the test says so, else 0
 unfoldable pub counted : Bool → ℕ → ℕ
 counted true w = w
 counted false w = 0

@@ -222,12 +222,14 @@ DroppedTogether =
     (g : Graph) → Ends (count g) (g .syncs) → NoZeroCycle (edges g) → Distinct (g .syncs) → (marked : ℕ → Bool) →
     ((i : ℕ) → i < length (g .syncs) → T (marked i) → Redundant g i) → AllHeld (edges (dropping g marked)) (edges g)
 
--- An edge out of the source of e, other than the one at place i, leads to the sink of e, alone or followed by a least path of the whole graph,
--- within the delay of e.
+-- f leads from the source of e to the sink of e, alone or followed by a least path of es, within the delay of e.
+pub record Way (es : List Edge) (e f : Edge) : Type 0 where
+  pub same-source : f .source ≡ e .source
+  pub within : ((f .sink ≡ e .sink) × (f .delay ≤ e .delay)) ⊎ ((d : ℕ) × Least es (f .sink) (e .sink) (some d) × (f .delay + d ≤ e .delay))
+
+-- An edge other than the one at place i is such a way for e, by least paths of the whole graph.
 abbrev pub OtherWay : Graph → ℕ → Edge → Type 0
-OtherWay g i e =
-    (f : Edge) × f ∈ edgesWithout g i × (f .source ≡ e .source) ×
-    (((f .sink ≡ e .sink) × (f .delay ≤ e .delay)) ⊎ ((d : ℕ) × Least (edges g) (f .sink) (e .sink) (some d) × (f .delay + d ≤ e .delay)))
+OtherWay g i e = (f : Edge) × f ∈ edgesWithout g i × Way (edges g) e f
 
 -- One table of least delays serves every edge: in a graph without zero-delay cycle an edge is redundant exactly if there is such another way.
 abbrev pub RedundantByTable : Type 0

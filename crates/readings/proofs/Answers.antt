@@ -1,23 +1,14 @@
 -- The whole reading from the two groups of checks, the first refusal with zeros or what the file holds: a group that refuses ends the chain, one
 -- that passes is left out of it.
-use mathlib.Core.Path.{_≡_, refl, sym, ap, _∙_}
+use mathlib.Core.Path.{_≡_, sym, ap, _∙_}
 use mathlib.Core.Logic.{_≢_}
 use mathlib.Core.List.{List, [], _∷_}
-use Prim.Native.Nat.{ℕ, zero, suc}
+use Prim.Native.Nat.{ℕ}
 use Rattle.files.specs.declared.Refusal.{Refusal}
-use Rattle.files.specs.Refusals.{notRefused, first}
+use Rattle.files.specs.Refusals.{notRefused}
 use Rattle.files.specs.Files.{graphOf, proposalOf, graphFrameRefusal, graphRecordsRefusal, graphRefusal, proposalFrameRefusal, proposedEdgesRefusal, proposalRefusal}
-use Rattle.readings.specs.Working.{ifPassed, workingGraph, refusedGraph, graphAnswer, graphReading, workingProposal, refusedProposal, proposalAnswer, proposalReading}
-use Rattle.files.proofs.First.{ends-with, goes-on, last-answer, none-refused, number-same}
-
-pub if-passed : {A : Type 0} (n : ℕ) (read refused : A) → n ≡ 0 → ifPassed n read refused ≡ read
-unfolding ifPassed
-if-passed n read refused none = ap (λ (m : ℕ). ifPassed m read refused) none
-
-pub if-refused : {A : Type 0} (n : ℕ) (read refused : A) → n ≢ 0 → ifPassed n read refused ≡ refused
-unfolding ifPassed
-if-refused zero read refused some = absurd (some refl)
-if-refused (suc n) read refused some = refl
+use Rattle.readings.specs.Working.{workingGraph, refusedGraph, graphAnswer, graphReading, workingProposal, refusedProposal, proposalAnswer, proposalReading}
+use Rattle.files.proofs.First.{ends-with, goes-on, last-answer, none-refused, number-same, if-passed, if-refused}
 
 -- ── Proposals ──
 

@@ -8,14 +8,13 @@ use lib.ListN.{length}
 use Rattle.model.specs.Tasks.{noTask, noEdge, processorOf}
 use Rattle.model.specs.Graph.{count, edges, timeOf}
 use Rattle.records.proofs.Parts.{column-of-take}
+use Rattle.records.proofs.Ordered.{edges-count}
 use Rattle.readings.specs.declared.GraphReading.{GraphReading}
 use Rattle.readings.specs.declared.ProposalReading.{ProposalReading}
 use Rattle.files.specs.Files.{graphOf, proposalOf, edgeIn, graphRefusal, proposalRefusal}
 use Rattle.readings.specs.Working.{workingGraph, refusedGraph, graphAnswer, graphReading, workingProposal, refusedProposal, proposalAnswer, proposalReading}
 use Rattle.readings.specs.Theorems.{GraphRefusalGiven, GraphGiven, ProposalRefusalGiven, ProposalGiven, WorkingHolds, WorkingEdgesHold}
-use Rattle.files.proofs.First.{zero-or-not, none-refused}
-use Rattle.readings.proofs.Whole.{edges-count}
-use Rattle.readings.proofs.Answers.{if-passed, if-refused}
+use Rattle.files.proofs.First.{zero-or-not, none-refused, if-passed, if-refused}
 
 pub working-holds : WorkingHolds
 unfolding workingGraph processorOf timeOf edgeIn

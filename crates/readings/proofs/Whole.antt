@@ -1,14 +1,13 @@
 -- What stands at each place of the working lists: the numbers of the file's tasks, of the processor edges and of the file's edges, then 0. A list
 -- made place by place has at each place what it was made of, and past its end the task or edge of zeros.
 use mathlib.Core.Path.{_≡_, refl, sym, ap, _∙_, subst}
-use mathlib.Core.List.{List, _++_}
+use mathlib.Core.List.{List}
 use Prim.Native.Nat.{ℕ, _+_, _-_, _≤_, _<_}
-use lib.ListN.{length, getD, length-append, List·getD-append, List·getD-eq-default}
-use lib.Seq.{getD-append-add}
+use lib.ListN.{length, getD, List·getD-eq-default}
 use native.Mathlib.Omega.{arith}
 use Rattle.model.specs.Lists.{tabulate}
 use Rattle.model.specs.Tasks.{Task, Edge, noTask, noEdge}
-use Rattle.model.specs.Processors.{processorEdge, processorEdges}
+use Rattle.model.specs.Processors.{processorEdge}
 use Rattle.model.specs.Graph.{Graph, edges}
 use Rattle.layout.specs.Layout.{graphHeader, proposalHeader, graphHeaderBits, proposalHeaderBits, recordStart, taskAt, edgeAt}
 use Rattle.layout.specs.declared.GraphHeader.{GraphHeader}
@@ -16,6 +15,7 @@ use Rattle.files.specs.Files.{taskCount, edgeCount, edgesFrom, graphOf, proposa
 use borrow.Rule.Slice.PartMut.{midOf}
 use Rattle.records.specs.Columns.{zeros, withPart, Column}
 use Rattle.records.proofs.Fill.{length-tabulate, getD-tabulate}
+use Rattle.records.proofs.Ordered.{edges-count, processor-edge-at, sync-place}
 use Rattle.records.proofs.Parts.{one-part, two-parts, column-of-part}
 
 -- ── Edges of a file ──
@@ -64,28 +64,13 @@ module _ (s : List ℕ) where
 
 -- ── The edges that order a graph ──
 
-module _ (g : Graph) where
-  processor-edges-count : length (processorEdges (g .tasks)) ≡ length (g .tasks)
-  unfolding processorEdges
-  processor-edges-count = length-tabulate (length (g .tasks)) (processorEdge (g .tasks))
+pub ordered-first : (g : Graph) (v : ℕ) → v < length (g .tasks) → processorEdge (g .tasks) v ≡ edgeIn (edges g) v
+unfolding edgeIn
+ordered-first g v l = sym (processor-edge-at g v l)
 
-  pub edges-count : length (edges g) ≡ length (g .tasks) + length (g .syncs)
-  unfolding edges
-  edges-count = length-append (processorEdges (g .tasks)) (g .syncs) ∙ ap (λ (n : ℕ). n + length (g .syncs)) processor-edges-count
-
-  pub ordered-first : (v : ℕ) → v < length (g .tasks) → processorEdge (g .tasks) v ≡ edgeIn (edges g) v
-  unfolding edges edgeIn processorEdges
-  ordered-first v l =
-      sym
-      (List·getD-append (processorEdges (g .tasks)) (g .syncs) noEdge v (subst (λ (n : ℕ). v < n) (sym processor-edges-count) l) ∙
-      getD-tabulate (length (g .tasks)) (processorEdge (g .tasks)) noEdge v l)
-
-  pub ordered-then : (j : ℕ) → edgeIn (g .syncs) j ≡ edgeIn (edges g) (length (g .tasks) + j)
-  unfolding edges edgeIn
-  ordered-then j =
-      sym
-      (ap (λ (n : ℕ). getD (processorEdges (g .tasks) ++ g .syncs) (n + j) noEdge) (sym processor-edges-count) ∙
-      getD-append-add (processorEdges (g .tasks)) (g .syncs) j noEdge)
+pub ordered-then : (g : Graph) (j : ℕ) → edgeIn (g .syncs) j ≡ edgeIn (edges g) (length (g .tasks) + j)
+unfolding edgeIn
+ordered-then g j = sym (sync-place g j)
 
 -- ── The lists as wholes, one number of each element at a time ──
 

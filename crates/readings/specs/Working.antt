@@ -2,7 +2,7 @@
 -- edges first (entry v is the one out of task v), then those of the file. Of a refused file, number and place, and 0 elsewhere.
 use mathlib.Core.Path.{_≡_}
 use mathlib.Core.List.{List}
-use Prim.Native.Nat.{ℕ, zero, suc}
+use Prim.Native.Nat.{ℕ}
 use lib.ListN.{length}
 use Rattle.model.specs.Lists.{tabulate}
 use Rattle.model.specs.Tasks.{Edge, processorOf}
@@ -11,7 +11,7 @@ use Rattle.records.specs.Columns.{zeros}
 use Rattle.files.specs.declared.Refusal.{Refusal}
 use Rattle.readings.specs.declared.GraphReading.{GraphReading}
 use Rattle.readings.specs.declared.ProposalReading.{ProposalReading}
-use Rattle.files.specs.Refusals.{notRefused}
+use Rattle.files.specs.Refusals.{notRefused, ifPassed}
 use Rattle.files.specs.Files.{edgeIn, graphOf, graphRefusal, proposalOf, proposalRefusal}
 
 -- a graph in its working form
@@ -45,11 +45,6 @@ refusedGraph r = record {
   sink = zeros 320;
   delay = zeros 320;
 }
-
--- what is read, if the number says that nothing is refused
-unfoldable pub ifPassed : {A : Type 0} → ℕ → A → A → A
-ifPassed zero read refused = read
-ifPassed (suc n) read refused = refused
 
 -- the graph, if nothing is refused
 unfoldable pub graphAnswer : Refusal → Graph → GraphReading

@@ -1,10 +1,9 @@
 -- The edges that three lists hold: how many, which, and that lists whose columns are those of given edges hold these.
-use mathlib.Core.Path.{_≡_, refl, sym, ap, _∙_, subst}
+use mathlib.Core.Path.{_≡_, _∙_, subst}
 use mathlib.Core.List.{List}
 use Prim.Native.Nat.{ℕ, _<_}
 use lib.ListN.{length, getD}
 use lib.Seq.{ext-getD}
-use Rattle.model.specs.Lists.{tabulate}
 use Rattle.model.specs.Tasks.{Edge, _∈_, noEdge}
 use Rattle.model.proofs.Basics.{tabulate-in, tabulate-out}
 use Rattle.records.specs.Columns.{SourcesOf, SinksOf, DelaysOf, heldEdge, edgesOf}

@@ -1,4 +1,4 @@
--- A loop that fills a list from the front, one store a turn: after k turns its first k elements are f 0, f 1, .., and at the end all are. And laws
+-- A loop that fills a list from the front, one store a step: after k steps its first k elements are f 0, f 1, .., and at the end all are. And laws
 -- of a search that has found nothing so far, and of lists made place by place.
 use mathlib.Core.Path.{_≡_, refl, sym, ap, _∙_, subst}
 use mathlib.Core.List.{List, [], _∷_, _++_}

@@ -3,3 +3,4 @@ pub mod Fill
 pub mod Parts
 pub mod Rows
 pub mod Edges
+pub mod Ordered

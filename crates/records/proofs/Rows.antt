@@ -1,16 +1,27 @@
 -- Rows of equal width, one after the other: how long they are, what stands where, and what a list holds after one row more has been written into
 -- it as a part.
-use mathlib.Core.Path.{_≡_, sym, ap, _∙_}
+use mathlib.Core.Path.{_≡_, sym, ap, _∙_, subst}
 use mathlib.Core.Logic.{_⊎_, inl, inr}
 use mathlib.Core.List.{List, _++_, append-assoc}
 use Prim.Native.Nat.{ℕ, zero, suc, _+_, _-_, _*_, _≤_, _<_}
-use native.Mathlib.Nat.{not-suc-le-zero, zero-mul, suc-mul, mul-le-mul-right}
+use native.Mathlib.Nat.{not-suc-le-zero, zero-mul, suc-mul, mul-le-mul, mul-le-mul-right}
 use native.Mathlib.Omega.{arith}
 use lib.ListN.{length, getD, take, drop, length-append, List·getD-append}
 use lib.Seq.{getD-append-add, take-at, drop-at}
 use borrow.Rule.Slice.PartMut.{postOf, putMid, post-is}
 use Rattle.model.proofs.Basics.{below-suc}
 use Rattle.records.specs.Columns.{rows}
+
+-- entry b of row a stands within m rows of width w
+pub place-within : (w m a b : ℕ) → a < m → b < w → a * w + b < m * w
+place-within w m a b l k =
+    let whole : suc a * w ≤ m * w = mul-le-mul-right w l in
+    let next : suc a * w ≡ a * w + w = suc-mul a w in
+    omega arith
+
+-- as many entries as 64 rows of 64 have at most
+pub product-small : (a b : ℕ) → a ≤ 64 → b ≤ 64 → a * b ≤ 4096
+product-small a b few narrow = mul-le-mul few narrow
 
 module _ (w : ℕ) (f : ℕ → List ℕ) (wide : (a : ℕ) → length (f a) ≡ w) where
   pub rows-length : (n : ℕ) → length (rows n f) ≡ n * w
@@ -26,10 +37,7 @@ module _ (w : ℕ) (f : ℕ → List ℕ) (wide : (a : ℕ) → length (f a) ≡
     where
       go : (a < n) ⊎ (a ≡ n) → (a < n → getD (rows n f) (a * w + b) 0 ≡ getD (f a) b 0) → getD (rows n f ++ f n) (a * w + b) 0 ≡ getD (f a) b 0
       go (inl h) earlier =
-          let whole : suc a * w ≤ n * w = mul-le-mul-right w h in
-          let next : suc a * w ≡ a * w + w = suc-mul a w in
-          let long : length (rows n f) ≡ n * w = rows-length n in
-          let inside : a * w + b < length (rows n f) = omega arith in
+          let inside : a * w + b < length (rows n f) = subst (λ (m : ℕ). a * w + b < m) (sym (rows-length n)) (place-within w n a b h k) in
           List·getD-append (rows n f) (f n) 0 (a * w + b) inside ∙ earlier h
       go (inr e) earlier =
           ap (λ (m : ℕ). getD (rows n f ++ f n) (m + b) 0) (ap (λ (x : ℕ). x * w) e ∙ sym (rows-length n)) ∙

@@ -27,6 +27,10 @@ SinksOf es column = Column noEdge (λ e. e .sink) es column
 abbrev pub DelaysOf : List Edge → List ℕ → Type 0
 DelaysOf es column = Column noEdge (λ e. e .delay) es column
 
+-- the number at a place of a list, counted from 0; past the end 0
+unfoldable pub at : List ℕ → ℕ → ℕ
+at column v = getD column v 0
+
 -- entry i of three lists that hold edges
 unfoldable pub heldEdge : List ℕ → List ℕ → List ℕ → ℕ → Edge
 heldEdge source sink delay i = record { source = getD source i 0; sink = getD sink i 0; delay = getD delay i 0 }

@@ -1,4 +1,4 @@
--- Lemmas of this crate's proofs.
+-- The proofs that other crates may cite.
 pub mod Others
 pub mod Ways
 pub mod Words

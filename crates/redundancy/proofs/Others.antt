@@ -7,24 +7,22 @@ use mathlib.Core.List.{List, [], _∷_, _++_, List·Memᴰ, List·Memᴰ·head a
 use Prim.Native.Nat.{ℕ, zero, suc, _+_, _-_, _≤_, _<_}
 use native.Mathlib.Nat.{not-suc-le-zero}
 use native.Mathlib.Omega.{arith}
-use lib.Dec.{not-T}
-use lib.ListN.{length, getD, length-append, List·getD-append}
-use lib.Seq.{getD-append-add}
+use lib.ListN.{length, getD}
 use Rattle.model.specs.Lists.{without}
-use Rattle.model.specs.Tasks.{Task, Edge, _∈_, noEdge}
-use Rattle.model.specs.Processors.{processorEdges, processorEdge}
+use Rattle.model.specs.Tasks.{Edge, _∈_, noEdge}
+use Rattle.model.specs.Processors.{processorEdges}
 use Rattle.model.specs.Graph.{Graph, count, edges}
 use Rattle.model.specs.Paths.{edgesWithout, syncAt}
 use Rattle.model.specs.Compute.{isRedundant}
-use Rattle.model.specs.Theorems.{OtherWay}
-use Rattle.model.proofs.Basics.{order, is-true, is-false, member-place, place-member}
+use Rattle.model.specs.Theorems.{OtherWay, Way}
+use Rattle.model.proofs.Basics.{order, member-place, place-member}
 use Rattle.model.proofs.Graphs.{without-cases}
-use Rattle.model.proofs.Tests.{decides-true}
+use Rattle.model.proofs.Tests.{decides-yes, decides-no}
 use Rattle.model.proofs.Theorems.{redundant-is, redundant-by-table}
 use Rattle.records.specs.Columns.{heldEdge, edgesOf}
-use Rattle.records.proofs.Fill.{length-tabulate}
+use Rattle.records.proofs.Ordered.{processor-edges-count, edges-count, processor-place, sync-place}
 use Rattle.records.proofs.Edges.{edges-length, edge-at}
-use Rattle.redundancy.specs.Redundancy.{HeldGraph, Way}
+use Rattle.redundancy.specs.Redundancy.{HeldGraph}
 
 -- ── The places of the other edges ──
 
@@ -45,29 +43,7 @@ module _ {A : Type 0} (x₀ : A) where
   place-without (suc i) (x ∷ xs) (there m) =
       let r = place-without i xs m in let l = r .1 in (suc (r .0), omega arith, λ q. r .2 (omega arith), r .3)
 
-processor-edges-length : (ts : List Task) → length (processorEdges ts) ≡ length ts
-unfolding processorEdges
-processor-edges-length ts = length-tabulate (length ts) (processorEdge ts)
-
 module _ (g : Graph) where
-  edges-as-many : length (edges g) ≡ count g + length (g .syncs)
-  unfolding edges
-  edges-as-many =
-      length-append (processorEdges (g .tasks)) (g .syncs) ∙
-      ap (λ (m : ℕ). m + length (g .syncs)) (processor-edges-length (g .tasks))
-
-  -- past the processor edges stand the synchronization edges
-  sync-place : (i : ℕ) → getD (edges g) (count g + i) noEdge ≡ getD (g .syncs) i noEdge
-  unfolding edges
-  sync-place i =
-      ap (λ (m : ℕ). getD (processorEdges (g .tasks) ++ g .syncs) (m + i) noEdge) (sym (processor-edges-length (g .tasks))) ∙
-      getD-append-add (processorEdges (g .tasks)) (g .syncs) i noEdge
-
-  processor-place : (j : ℕ) → j < count g → getD (edges g) j noEdge ≡ getD (processorEdges (g .tasks)) j noEdge
-  unfolding edges
-  processor-place j l =
-      List·getD-append (processorEdges (g .tasks)) (g .syncs) noEdge j (subst (λ (m : ℕ). j < m) (sym (processor-edges-length (g .tasks))) l)
-
   module _ (i : ℕ) where
     other-in : (j : ℕ) → j < length (edges g) → j ≢ count g + i → getD (edges g) j noEdge ∈ edgesWithout g i
     unfolding edgesWithout
@@ -75,34 +51,34 @@ module _ (g : Graph) where
       where
         go : (count g ≤ j) ⊎ (j < count g) → getD (edges g) j noEdge ∈ processorEdges (g .tasks) ++ without i (g .syncs)
         go (inl k) =
-            let many : length (edges g) ≡ count g + length (g .syncs) = edges-as-many in
+            let many : length (edges g) ≡ count g + length (g .syncs) = edges-count g in
             let place : count g + (j - count g) ≡ j = omega arith in
             let below : j - count g < length (g .syncs) = omega arith in
             let is : getD (g .syncs) (j - count g) noEdge ≡ getD (edges g) j noEdge =
-            sym (sync-place (j - count g)) ∙ ap (λ (m : ℕ). getD (edges g) m noEdge) place in
+            sym (sync-place g (j - count g)) ∙ ap (λ (m : ℕ). getD (edges g) m noEdge) place in
             subst (λ (e : Edge). e ∈ processorEdges (g .tasks) ++ without i (g .syncs)) is
             (Memᴰ·append-right (processorEdges (g .tasks)) (without-place noEdge i (j - count g) (g .syncs) below (λ q. other (omega arith))))
         go (inr k) =
-            subst (λ (e : Edge). e ∈ processorEdges (g .tasks) ++ without i (g .syncs)) (sym (processor-place j k))
+            subst (λ (e : Edge). e ∈ processorEdges (g .tasks) ++ without i (g .syncs)) (sym (processor-place g j k))
             (Memᴰ·append-left (without i (g .syncs))
-            (place-member (processorEdges (g .tasks)) j noEdge (subst (λ (m : ℕ). j < m) (sym (processor-edges-length (g .tasks))) k)))
+            (place-member (processorEdges (g .tasks)) j noEdge (subst (λ (m : ℕ). j < m) (sym (processor-edges-count g)) k)))
 
     other-out : {f : Edge} → f ∈ edgesWithout g i → (j : ℕ) × (j < length (edges g)) × (j ≢ count g + i) × (getD (edges g) j noEdge ≡ f)
     other-out {f} m = go (without-cases g i m)
       where
         many : length (edges g) ≡ count g + length (g .syncs)
-        many = edges-as-many
+        many = edges-count g
 
         go : f ∈ processorEdges (g .tasks) ⊎ f ∈ without i (g .syncs) →
             (j : ℕ) × (j < length (edges g)) × (j ≢ count g + i) × (getD (edges g) j noEdge ≡ f)
         go (inl k) =
             let r = member-place noEdge k in
-            let l : r .0 < count g = subst (λ (m : ℕ). r .0 < m) (processor-edges-length (g .tasks)) (r .1) in
-            (r .0, omega (arith, many), λ q. omega arith, processor-place (r .0) l ∙ r .2)
+            let l : r .0 < count g = subst (λ (m : ℕ). r .0 < m) (processor-edges-count g) (r .1) in
+            (r .0, omega (arith, many), λ q. omega arith, processor-place g (r .0) l ∙ r .2)
         go (inr k) =
             let r = place-without noEdge i (g .syncs) k in
             let l = r .1 in
-            (count g + r .0, omega (arith, many), λ q. r .2 (omega arith), sync-place (r .0) ∙ r .3)
+            (count g + r .0, omega (arith, many), λ q. r .2 (omega arith), sync-place g (r .0) ∙ r .3)
 
 -- ── Redundant edges ──
 
@@ -124,13 +100,12 @@ module _ (g : Graph) (n : ℕ) (source sink delay : List ℕ) (held : HeldGraph 
   own-is l = edge-is own l ∙ (ap (λ (m : ℕ). getD (edges g) m noEdge) place ∙ sync-place g i)
 
   own-below : own < length source → i < length (g .syncs)
-  own-below l = let many = edges-as-many g in let same = as-many in let at = place in omega arith
+  own-below l = let many = edges-count g in let same = as-many in let at = place in omega arith
 
   pub other-way-found : own < length source → (j : ℕ) → j < length source → j ≢ own → held-way j → isRedundant g i ≡ true
   other-way-found below j l other way =
-      is-true (isRedundant g i)
-      (decides-true (redundant-is g (held .ends) i)
-      ((redundant-by-table g (held .ends) (held .no-zero-cycle) i (own-below below)) .1 other-way))
+      decides-yes (redundant-is g (held .ends) i)
+      ((redundant-by-table g (held .ends) (held .no-zero-cycle) i (own-below below)) .1 other-way)
     where
       whole : Way (edges g) (syncAt g i) (getD (edges g) j noEdge)
       whole =
@@ -142,31 +117,28 @@ module _ (g : Graph) (n : ℕ) (source sink delay : List ℕ) (held : HeldGraph 
       other-way = (
         getD (edges g) j noEdge,
         other-in g i j (subst (λ (m : ℕ). j < m) (sym as-many) l) (λ q. other (q ∙ sym place)),
-        whole .same-source,
-        whole .within,
+        whole,
       )
 
   pub no-other-way : own < length source → ((j : ℕ) → j < length source → j ≢ own → held-way j → ⊥) → isRedundant g i ≡ false
   no-other-way below none =
-      is-false (isRedundant g i)
-      (not-T (isRedundant g i)
-      (λ t.
-      let way = (redundant-by-table g (held .ends) (held .no-zero-cycle) i (own-below below)) .0 ((redundant-is g (held .ends) i) .if-true t) in
+      decides-no (redundant-is g (held .ends) i)
+      (λ redundant.
+      let way = (redundant-by-table g (held .ends) (held .no-zero-cycle) i (own-below below)) .0 redundant in
       let at = other-out g i (way .1) in
       let l : at .0 < length source = subst (λ (m : ℕ). at .0 < m) as-many (at .1) in
       none (at .0) l (λ q. at .2 (q ∙ place))
       (subst (λ (f : Edge). Way (edgesOf source sink delay) (heldEdge source sink delay own) f) (sym (edge-is (at .0) l ∙ at .3))
       (subst (λ (e : Edge). Way (edgesOf source sink delay) e (way .0)) (sym (own-is below))
-      (subst (λ (es : List Edge). Way es (syncAt g i) (way .0)) (held .held) (record { same-source = way .2; within = way .3 }))))))
+      (subst (λ (es : List Edge). Way es (syncAt g i) (way .0)) (held .held) (way .2)))))
 
   -- a place past the list's end is no edge's
   pub past-end : length source ≤ own → isRedundant g i ≡ false
   past-end l =
-      is-false (isRedundant g i)
-      (not-T (isRedundant g i)
-      (λ t.
-      let inside = ((redundant-is g (held .ends) i) .if-true t) .0 in
-      let many = edges-as-many g in
+      decides-no (redundant-is g (held .ends) i)
+      (λ redundant.
+      let inside = redundant .0 in
+      let many = edges-count g in
       let same = as-many in
       let at = place in
-      omega arith))
+      omega arith)

@@ -1,52 +1,20 @@
 -- An edge f out of the source of an edge e is another way for e exactly if its delay and the table's from its sink on, or nothing where its sink is
 -- that of e, add up to at most the delay of e: the table's entries are least delays, and none counts more than every delay.
-use mathlib.Core.Path.{_≡_, ap, _∙_}
+use mathlib.Core.Path.{_≡_, _∙_}
 use mathlib.Core.Logic.{_⊎_, inl, inr, _≢_}
 use mathlib.Core.List.{List}
 use mathlib.Core.Option.{Option, some}
-use Prim.Native.Nat.{ℕ, suc, _+_, _*_, _≤_, _<_}
-use native.Mathlib.Nat.{suc-mul, mul-le-mul, mul-le-mul-right}
+use Prim.Native.Nat.{ℕ, _+_, _*_, _≤_}
 use native.Mathlib.Omega.{arith}
 use lib.Dec.{leb, leb→le, le→leb}
-use lib.ListN.{length, getD}
+use lib.ListN.{getD}
 use Rattle.model.specs.Tasks.{Edge, _∈_}
 use Rattle.model.specs.Paths.{Least, smallest, no-path}
-use Rattle.model.specs.Compute.{leastDelay}
-use Rattle.model.specs.Theorems.{Decides}
+use Rattle.model.specs.Theorems.{Decides, Way}
 use Rattle.model.proofs.Tests.{decides-iff}
 use Rattle.model.proofs.Theorems.{least-delay-is}
-use Rattle.records.proofs.Fill.{length-tabulate, getD-tabulate}
-use Rattle.records.proofs.Rows.{rows-length, rows-at}
-use Rattle.delays.specs.Delays.{entry, delayRow, delayTable, Fit}
-use Rattle.redundancy.specs.Redundancy.{Way}
-
--- ── The table ──
-
-pub entry-below : {n a b : ℕ} → a < n → b < n → a * n + b < n * n
-entry-below {n} {a} {b} l k =
-    let next : suc a * n ≡ a * n + n = suc-mul a n in
-    let whole : suc a * n ≤ n * n = mul-le-mul-right n l in
-    omega arith
-
-pub few-entries : {n : ℕ} → n ≤ 64 → n * n ≤ 4096
-few-entries l = mul-le-mul l l
-
-module _ (n : ℕ) (es : List Edge) where
-  row-length : (a : ℕ) → length (delayRow n es a) ≡ n
-  unfolding delayRow
-  row-length a = length-tabulate n (λ b. entry (leastDelay n es a b))
-
-  pub table-length : length (delayTable n es) ≡ n * n
-  unfolding delayTable
-  table-length = rows-length n (delayRow n es) row-length n
-
-  table-row : (a b : ℕ) → b < n → getD (delayRow n es a) b 0 ≡ entry (leastDelay n es a b)
-  unfolding delayRow
-  table-row a b k = getD-tabulate n (λ b. entry (leastDelay n es a b)) 0 b k
-
-  table-at : (a b : ℕ) → a < n → b < n → getD (delayTable n es) (a * n + b) 0 ≡ entry (leastDelay n es a b)
-  unfolding delayTable
-  table-at a b l k = rows-at n (delayRow n es) row-length n a b l k ∙ table-row a b k
+use Rattle.delays.specs.Delays.{entry, delayTable, Fit}
+use Rattle.delays.proofs.Table.{table-at}
 
 -- ── Another way ──
 

@@ -1,14 +1,11 @@
--- Only for contracts inside: a list of edges is that of a graph without cycle of delay 0, four lists hold edges and their least delays, and an
--- edge is another way for an edge.
+-- Only for contracts inside: a list of edges is that of a graph without cycle of delay 0; four lists hold edges and their least delays.
 use mathlib.Core.Path.{_≡_}
-use mathlib.Core.Logic.{_⊎_}
 use mathlib.Core.List.{List}
-use mathlib.Core.Option.{some}
-use Prim.Native.Nat.{ℕ, _+_, _≤_}
+use Prim.Native.Nat.{ℕ, _≤_}
 use lib.ListN.{length}
 use Rattle.model.specs.Tasks.{Edge, Ends}
 use Rattle.model.specs.Graph.{Graph, count, edges}
-use Rattle.model.specs.Paths.{Least, NoZeroCycle}
+use Rattle.model.specs.Paths.{NoZeroCycle}
 use Rattle.records.specs.Columns.{edgesOf}
 use Rattle.delays.specs.Delays.{delayTable, Fit}
 
@@ -25,8 +22,3 @@ pub record Tabled (n : ℕ) (source sink delay table : List ℕ) : Type 0 where
   pub few : n ≤ 64
   pub fit : Fit n (edgesOf source sink delay)
   pub least : table ≡ delayTable n (edgesOf source sink delay)
-
--- f leads from the source of e to the sink of e, alone or followed by a least path of es, within the delay of e.
-pub record Way (es : List Edge) (e f : Edge) : Type 0 where
-  pub same-source : f .source ≡ e .source
-  pub within : ((f .sink ≡ e .sink) × (f .delay ≤ e .delay)) ⊎ ((d : ℕ) × Least es (f .sink) (e .sink) (some d) × (f .delay + d ≤ e .delay))

@@ -6,11 +6,11 @@ ghost use lib.ListN.{length, getD};
 ghost use Rattle.model.specs.Lists.{counted};
 ghost use Rattle.model.specs.Graph.{Graph};
 ghost use Rattle.model.specs.Compute.{isRedundant};
-ghost use Rattle.model.specs.Theorems.{Decides};
+ghost use Rattle.model.specs.Theorems.{Decides, Way};
 ghost use Rattle.records.specs.Columns.{heldEdge, edgesOf};
 ghost use Rattle.delays.specs.Delays.{delayTable, Fit};
 ghost use Rattle.marks.specs.Marks.{number, marksOf};
-ghost use Rattle.redundancy.specs.Redundancy.{HeldGraph, Tabled, Way};
+ghost use Rattle.redundancy.specs.Redundancy.{HeldGraph, Tabled};
 use marks::Marks;
 
 // The delay from `next` on to `to`: 0 where they are the same task, otherwise the table's.
@@ -93,7 +93,7 @@ fn mark<'a>(
     0
 }
 
-// 64 marks in a word, from that of the file's edge number `first`, counted from 0, on; it is the most significant bit.
+// 64 marks in a word: that of the file's edge number `first`, counted from 0, is the most significant bit, those after it follow.
 fn mark_word<'a>(
     source: &'a [u8],
     sink: &'a [u8],

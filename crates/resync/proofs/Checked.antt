@@ -1,11 +1,10 @@
 -- Refusals 16 and 17 as the code tests them, and what every call knows of an accepted file: by `acceptance`, its refusal is the one that the call
 -- gives, and the fronts of the lists that were read hold the graph.
-use mathlib.Core.Path.{_≡_, refl, sym, ap, _∙_, subst}
+use mathlib.Core.Path.{_≡_, sym, ap, _∙_, subst}
 use mathlib.Core.Logic.{_⊎_, inl, inr, _≢_}
-use mathlib.Core.Bool.{Bool, true, false, _||_}
+use mathlib.Core.Bool.{Bool, false, _||_}
 use mathlib.Core.List.{List, [], _∷_}
-use Prim.Native.Nat.{ℕ, _*_, _≤_, _<_, zero-le}
-use native.Mathlib.Nat.{mul-le-mul}
+use Prim.Native.Nat.{ℕ, _≤_, _<_, zero-le}
 use native.Mathlib.Omega.{arith}
 use lib.Dec.{ltb}
 use borrow.Author.Tests.{lt-ltb, le-ltb}
@@ -13,18 +12,17 @@ use Rattle.model.specs.Tasks.{Edge}
 use Rattle.model.specs.Graph.{WellFormed, count, edges}
 use Rattle.model.specs.Compute.{zeroCycle, latencyOf}
 use Rattle.model.specs.Proposals.{AcceptedGraph}
-use Rattle.model.proofs.Basics.{is-false, order}
-use Rattle.model.proofs.Tests.{decides-true, decides-not}
+use Rattle.model.proofs.Basics.{order}
+use Rattle.model.proofs.Tests.{decides-no}
 use Rattle.model.proofs.Graphs.{graph-ends}
 use Rattle.model.proofs.Theorems.{zero-cycle-is}
 use Rattle.delays.specs.Delays.{Fit}
 use Rattle.files.specs.declared.Refusal.{Refusal}
-use Rattle.files.specs.Refusals.{notRefused, refuse, first}
+use Rattle.files.specs.Refusals.{notRefused, first, ifPassed}
 use Rattle.files.specs.Files.{graphOf, graphRefusal}
-use Rattle.files.proofs.First.{passes, stops, refused, not-refused, number-same, check-passes, check-stops, no-checks, zero-or-not}
+use Rattle.files.proofs.First.{passes, stops, refused, not-refused, number-same, check-passes, check-stops, no-checks, zero-or-not, if-refused}
 use Rattle.readings.specs.declared.GraphReading.{GraphReading}
-use Rattle.readings.specs.Working.{ifPassed, graphReading, graphAnswer, refusedGraph, workingGraph}
-use Rattle.readings.proofs.Answers.{if-refused}
+use Rattle.readings.specs.Working.{graphReading, graphAnswer, refusedGraph, workingGraph}
 use Rattle.readings.proofs.Held.{graph-given}
 use Rattle.readings.proofs.Accepted.{graph-formed}
 use Rattle.schedule.specs.declared.Acceptance.{Acceptance}
@@ -134,9 +132,8 @@ module _ (s : List ℕ) {r : Acceptance} (is : r ≡ acceptance s) where
 
     pub acyclic : zeroCycle (count (graphOf s)) (edges (graphOf s)) ≡ false
     acyclic =
-        is-false (zeroCycle (count (graphOf s)) (edges (graphOf s)))
-        (decides-true (decides-not (zero-cycle-is (count (graphOf s)) (edges (graphOf s)) (graph-ends (graphOf s) (well-formed .syncs-formed .ends))))
-        (accepted .1 .no-zero-cycle))
+        decides-no (zero-cycle-is (count (graphOf s)) (edges (graphOf s)) (graph-ends (graphOf s) (well-formed .syncs-formed .ends)))
+        (accepted .1 .no-zero-cycle)
 
     pub read-fronts : Fronts (graphOf s) (r .reading)
     read-fronts = fronts s reading-given (accepted .0)
@@ -145,7 +142,3 @@ module _ (s : List ℕ) {r : Acceptance} (is : r ≡ acceptance s) where
     read-fit =
         subst (λ (n : ℕ). Fit n (frontEdges (r .reading))) (sym (read-fronts .tasks-are))
         (subst (λ (es : List Edge). Fit (count (graphOf s)) es) (sym (read-fronts .held)) (graph-fit (graphOf s) well-formed))
-
--- two counts of at most 64
-pub product-small : (a b : ℕ) → a ≤ 64 → b ≤ 64 → a * b ≤ 4096
-product-small a b few few′ = mul-le-mul few few′

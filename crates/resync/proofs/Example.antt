@@ -11,10 +11,9 @@ use Rattle.model.specs.Proposals.{AcceptedGraph}
 use Rattle.model.proofs.Example.{desk-accepted}
 use Rattle.records.specs.Columns.{rows}
 use Rattle.marks.specs.Marks.{number, wordOf, marksOf, setBelow}
-use Rattle.files.specs.Refusals.{notRefused}
+use Rattle.files.specs.Refusals.{notRefused, ifPassed}
 use Rattle.files.proofs.First.{none-refused, number-same}
 use Rattle.files.proofs.Example.{deskBytes, desk-file, desk-passes}
-use Rattle.readings.specs.Working.{ifPassed}
 use Rattle.delays.specs.Delays.{entry, delayRow, delayTable}
 use Rattle.starts.specs.Starts.{turnRow, turnRows}
 use Rattle.schedule.specs.Schedule.{acceptanceRefusal}

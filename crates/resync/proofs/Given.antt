@@ -1,4 +1,4 @@
--- Which calls succeed, and which get 16 or 17. A chain of checks gives a number exactly if the checks before it pass and its own condition holds; the
+-- Which calls succeed, which get 16 or 17, and what refused ones answer. A chain of checks gives a number exactly if the checks before it pass and its own condition holds; the
 -- checks up to 12 pass exactly for an accepted file, and give neither 16 nor 17.
 use mathlib.Core.Path.{_≡_, refl, sym, _∙_}
 use mathlib.Core.Logic.{_↔_, Iff·trans, Iff·and, _⊎_, inl, inr, ⊎-elim, _≢_}
@@ -7,18 +7,21 @@ use mathlib.Core.List.{List, [], _∷_}
 use Prim.Native.Nat.{ℕ, _*_, _≤_, _<_}
 use native.Mathlib.Omega.{arith}
 use lib.Dec.{ltb}
+use lib.ListN.{length}
+use Rattle.model.specs.Compute.{isRedundant, latencyOf}
 use Rattle.model.specs.Theorems.{Decides}
-use Rattle.model.proofs.Basics.{is-true, is-false, order}
-use Rattle.model.proofs.Tests.{decides-true, decides-not, decided, ltb-decides}
+use Rattle.model.proofs.Basics.{order}
+use Rattle.model.proofs.Tests.{decides-yes, decides-no, decided, ltb-decides}
 use Rattle.files.specs.declared.Refusal.{Refusal}
 use Rattle.files.specs.Refusals.{refuse, first}
 use Rattle.files.specs.Files.{graphOf}
-use Rattle.files.proofs.First.{passes, stops, check-passes, check-stops, no-checks, number-same, zero-or-not}
+use Rattle.files.proofs.First.{passes, stops, check-passes, check-stops, no-checks, number-same, zero-or-not, if-refused}
+use Rattle.marks.specs.Marks.{marksOf, setBelow}
 use Rattle.schedule.specs.Schedule.{acceptanceRefusal}
-use Rattle.schedule.specs.Theorems.{Judged, zero-cycle, input-waits, not-joined, late, in-time}
+use Rattle.schedule.specs.Theorems.{Judged, zero-cycle, input-waits, not-joined, bound-below, passes as in-order}
 use Rattle.schedule.proofs.Judged.{accepted-iff-passed, refused-iff-judged}
-use Rattle.resync.specs.Calls.{outcome, roomRefusal, turnsRefusal, tasksOf, figuresOf, delaysRefusal, redundantOf, timetableRefusal}
-use Rattle.resync.specs.Theorems.{AcceptedFile, FiguresGiven, RedundantGiven, DelaysGiven, TimetableGiven, DelaysShort, TimetableShort, TurnsOutside}
+use Rattle.resync.specs.Calls.{outcome, roomRefusal, turnsRefusal, tasksOf, figuresOf, delaysRefusal, noMarks, redundantOf, timetableRefusal}
+use Rattle.resync.specs.Theorems.{AcceptedFile, FiguresGiven, RedundantGiven, DelaysGiven, TimetableGiven, DelaysShort, TimetableShort, TurnsOutside, DelaysRefused, TimetableRefused, ShortNoPlace, OutsideNoPlace, OutcomePlain, FiguresRefused, RedundantRefused}
 
 -- ── Chains of checks ──
 
@@ -36,10 +39,10 @@ first-later r rs m not-this = (λ is. to is (zero-or-not (r .number)), λ h. num
 -- a check whose condition is decided, in front of others
 module _ {b : Bool} {p : Type 0} (d : Decides b p) (n : ℕ) (some : n ≢ 0) (rs : List Refusal) where
   refuses : p → first (refuse b n 0 ∷ rs) .number ≡ n
-  refuses holds = number-same (check-stops n 0 rs some (is-true b (decides-true d holds)))
+  refuses holds = number-same (check-stops n 0 rs some (decides-yes d holds))
 
   lets-by : (p → ⊥) → first (refuse b n 0 ∷ rs) .number ≡ first rs .number
-  lets-by not = number-same (check-passes n 0 rs (is-false b (decides-true (decides-not d) not)))
+  lets-by not = number-same (check-passes n 0 rs (decides-no d not))
 
   gives-it : first rs .number ≢ n → (first (refuse b n 0 ∷ rs) .number ≡ n) ↔ p
   gives-it other = (λ is. to is (decided d), refuses)
@@ -62,10 +65,10 @@ up-to-12 s = go (order (acceptanceRefusal s .number) 12)
   where
     never : {m : ℕ} → 12 < m → Judged (graphOf s) m → ⊥
     never high (zero-cycle is z) = omega arith
-    never high (input-waits is a w) = omega arith
+    never high (input-waits is a e m t z) = omega arith
     never high (not-joined is a f j) = omega arith
-    never high (late is a f j l e b) = omega arith
-    never high (in-time is a f j l e b) = omega arith
+    never high (bound-below is a f j l e b) = omega arith
+    never high (in-order is a f j l e b) = omega arith
 
     go : (acceptanceRefusal s .number ≤ 12) ⊎ (12 < acceptanceRefusal s .number) → acceptanceRefusal s .number ≤ 12
     go (inl low) = low
@@ -171,3 +174,49 @@ unfolding timetableRefusal turnsRefusal
 turns-outside s turns room =
     gives-it (outside-decides turns) 17 (λ z. omega arith) (acceptanceRefusal s ∷ roomRefusal (tasksOf s * turns) room ∷ [])
     (accepted-not-17 (tasksOf s * turns) room s)
+
+-- ── Refused answers ──
+
+pub delays-refused : DelaysRefused
+unfolding delaysRefusal
+delays-refused s room some = stops (acceptanceRefusal s) (roomRefusal (tasksOf s * tasksOf s) room ∷ []) some
+
+pub timetable-refused : TimetableRefused
+unfolding timetableRefusal turnsRefusal
+timetable-refused s turns room one most some =
+    check-passes 17 0 (acceptanceRefusal s ∷ roomRefusal (tasksOf s * turns) room ∷ []) (decides-no (outside-decides turns) ((inside turns) .1 (one, most))) ∙
+    stops (acceptanceRefusal s) (roomRefusal (tasksOf s * turns) room ∷ []) some
+
+no-place : (b : Bool) (n : ℕ) → refuse b n 0 .place ≡ 0
+unfolding refuse
+no-place true n = refl
+no-place false n = refl
+
+pub short-no-place : ShortNoPlace
+unfolding roomRefusal
+short-no-place needed room = no-place (ltb room needed) 16
+
+pub outside-no-place : OutsideNoPlace
+unfolding turnsRefusal
+outside-no-place turns = no-place (ltb turns 1 || ltb 64 turns) 17
+
+pub outcome-plain : OutcomePlain
+unfolding outcome
+outcome-plain r = (refl, refl, refl, refl)
+
+pub figures-refused : FiguresRefused
+unfolding figuresOf outcome
+figures-refused s some = (
+  refl,
+  if-refused (acceptanceRefusal s .number) (tasksOf s) 0 some,
+  if-refused (acceptanceRefusal s .number) (length (graphOf s .syncs)) 0 some,
+  if-refused (acceptanceRefusal s .number) (latencyOf (graphOf s)) 0 some,
+)
+
+pub redundant-refused : RedundantRefused
+unfolding redundantOf outcome
+redundant-refused s some = (
+  refl,
+  if-refused (acceptanceRefusal s .number) (marksOf (isRedundant (graphOf s))) noMarks some,
+  if-refused (acceptanceRefusal s .number) (setBelow 256 (isRedundant (graphOf s))) 0 some,
+)

@@ -13,29 +13,26 @@ use Rattle.model.specs.Tasks.{Ends}
 use Rattle.model.specs.Graph.{count, edges, timeOf}
 use Rattle.model.specs.Lists.{sumOver}
 use Rattle.model.specs.Paths.{Redundant, Latency}
-use Rattle.model.specs.Runs.{Earliest, estimates}
+use Rattle.model.specs.Runs.{ends, Earliest, estimates}
 use Rattle.model.specs.Compute.{leastDelay, isRedundant, earliest, latencyOf}
 use Rattle.model.specs.Theorems.{Decides}
-use Rattle.model.proofs.Basics.{is-true}
-use Rattle.model.proofs.Tests.{decides-true}
+use Rattle.model.proofs.Tests.{decides-yes}
 use Rattle.model.proofs.Graphs.{graph-ends}
-use Rattle.model.proofs.Theorems.{least-delay-is, least-unique, least-bound, redundant-is, earliest-run, earliest-unique, latency-is}
+use Rattle.model.proofs.Theorems.{least-delay-is, least-bound, redundant-is, earliest-run, earliest-unique, latency-is, latency-unique, first-output-exact}
 use Rattle.files.specs.Files.{graphOf}
-use Rattle.files.proofs.First.{zero-or-not}
-use Rattle.readings.proofs.Answers.{if-passed, if-refused}
+use Rattle.files.proofs.First.{zero-or-not, if-passed, if-refused}
 use Rattle.marks.specs.declared.Marks.{Marks}
 use Rattle.marks.specs.Marks.{marksOf, bitOf, markAt, setBelow, placesBelow}
 use Rattle.marks.proofs.Laws.{mark-of, count-of, set-below-past}
 use Rattle.marks.proofs.Listed.{places-are}
-use Rattle.delays.specs.Delays.{entry}
 use Rattle.schedule.specs.Schedule.{acceptanceRefusal}
 use Rattle.schedule.proofs.Fronts.{graph-fit}
 use Rattle.schedule.proofs.Judged.{accepted-iff-passed}
 use Rattle.resync.specs.Calls.{tasksOf, figuresOf, noMarks, redundantOf}
-use Rattle.resync.specs.Theorems.{AcceptedFile, FiguresGiven, RedundantGiven, DelaysGiven, TimetableGiven, DelaysShort, TimetableShort, TurnsOutside, DelaysKept, TimetableKept, DelaysPast, TimetablePast, FiguresMean, DelaysMean, DelaysSmall, RedundantMean, RedundantCounted, RedundantListed, TimetableMean, TimetableRuns}
+use Rattle.resync.specs.Theorems.{AcceptedFile, FiguresGiven, RedundantGiven, DelaysGiven, TimetableGiven, DelaysShort, TimetableShort, TurnsOutside, DelaysRefused, TimetableRefused, ShortNoPlace, OutsideNoPlace, OutcomePlain, FiguresRefused, RedundantRefused, DelaysKept, TimetableKept, DelaysPast, TimetablePast, FiguresMean, FiguresRun, DelaysMean, DelaysSmall, RedundantMean, RedundantCounted, RedundantListed, TimetableMean, TimetableRuns}
 use Rattle.resync.proofs.Given
 use Rattle.resync.proofs.Written
-use Rattle.resync.proofs.Written.{table-at, starts-at}
+use Rattle.resync.proofs.Written.{delay-at, starts-at}
 
 -- ── Which calls succeed ──
 
@@ -59,6 +56,27 @@ timetable-short = Given.timetable-short
 
 pub turns-outside : TurnsOutside
 turns-outside = Given.turns-outside
+
+pub delays-refused : DelaysRefused
+delays-refused = Given.delays-refused
+
+pub timetable-refused : TimetableRefused
+timetable-refused = Given.timetable-refused
+
+pub short-no-place : ShortNoPlace
+short-no-place = Given.short-no-place
+
+pub outside-no-place : OutsideNoPlace
+outside-no-place = Given.outside-no-place
+
+pub outcome-plain : OutcomePlain
+outcome-plain = Given.outcome-plain
+
+pub figures-refused : FiguresRefused
+figures-refused = Given.figures-refused
+
+pub redundant-refused : RedundantRefused
+redundant-refused = Given.redundant-refused
 
 pub delays-kept : DelaysKept
 delays-kept = Written.delays-kept
@@ -90,13 +108,20 @@ figures-mean s accepted =
           (latency-is (count g) (edges g) (between-tasks s accepted) (accepted .1 .no-zero-cycle) (timeOf g) (g .output)),
     )
 
+pub figures-run : FiguresRun
+unfolding tasksOf
+figures-run s accepted turns start some run =
+    let g = graphOf s in
+    latency-unique (edges g) (timeOf g) (g .output) (ends start (estimates (timeOf g)) (g .output) 1) (figuresOf s .latency)
+    (first-output-exact (count g) (edges g) (between-tasks s accepted) turns start (timeOf g) (g .output) some (accepted .1 .formed .output-below) run)
+    (figures-mean s accepted .2)
+
 pub delays-mean : DelaysMean
-delays-mean s table none a b l k o least =
+delays-mean s table none a b l k =
     let n = tasksOf s in
     let es = edges (graphOf s) in
     let accepted = (delays-given s (length table)) .0 none .0 in
-    table-at s table none a b l k ∙
-    ap entry (least-unique es a b (leastDelay n es a b) o (least-delay-is n es (between-tasks s accepted) a b) least)
+    (leastDelay n es a b, least-delay-is n es (between-tasks s accepted) a b, delay-at s table none a b l k)
 
 pub delays-small : DelaysSmall
 delays-small s accepted a b d least =
@@ -128,7 +153,7 @@ redundant-listed s accepted p = (to, back)
         let few : length (graphOf s .syncs) ≤ 256 = accepted .1 .formed .syncs-formed .few in
         let below : p - 1 < 256 = omega (arith, redundant .0) in
         places-are 256 (markAt (redundantOf s .marks)) p .1
-        (low, omega (arith, low, below), is-true (markAt (redundantOf s .marks) (p - 1)) (decides-true (redundant-mean s accepted (p - 1) below) redundant))
+        (low, omega (arith, low, below), decides-yes (redundant-mean s accepted (p - 1) below) redundant)
 
 -- ── Marks ──
 

@@ -1,6 +1,6 @@
 -- What each call hands over is its definition's answer: where something is refused by the refusal's number, else because the lists that were read hold
 -- the graph.
-use mathlib.Core.Path.{_≡_, refl, sym, ap, _∙_, subst}
+use mathlib.Core.Path.{_≡_, sym, ap, _∙_}
 use mathlib.Core.Logic.{_≢_}
 use mathlib.Core.List.{List, [], _∷_, _++_}
 use Prim.Native.Nat.{ℕ, _-_, _*_, _≤_}
@@ -8,23 +8,19 @@ use native.Mathlib.Nat.{sub-zero}
 use native.Mathlib.Omega.{arith}
 use lib.ListN.{length, take, drop, length-append}
 use lib.Seq.{take-at}
+use Rattle.records.specs.Columns.{at}
 use Rattle.model.specs.Tasks.{Edge}
-use Rattle.model.specs.Graph.{count, edges, timeOf}
-use Rattle.model.specs.Compute.{isRedundant, latencyOf, leastDelay}
+use Rattle.model.specs.Graph.{count, edges}
+use Rattle.model.specs.Compute.{isRedundant, latencyOf}
 use Rattle.files.specs.declared.Refusal.{Refusal}
-use Rattle.files.specs.Refusals.{first}
+use Rattle.files.specs.Refusals.{first, ifPassed}
 use Rattle.files.specs.Files.{graphOf}
-use Rattle.files.proofs.First.{number-same, passes, stops}
-use Rattle.readings.specs.declared.GraphReading.{GraphReading}
-use Rattle.readings.specs.Working.{ifPassed}
-use Rattle.readings.proofs.Answers.{if-passed, if-refused}
+use Rattle.files.proofs.First.{number-same, passes, stops, if-passed, if-refused}
 use Rattle.marks.specs.declared.Marks.{Marks}
 use Rattle.marks.specs.Marks.{marksOf, markAt, setBelow}
 use Rattle.marks.proofs.Laws.{count-of}
-use Rattle.records.proofs.Fill.{length-tabulate}
-use Rattle.records.proofs.Rows.{rows-length}
-use Rattle.delays.specs.Delays.{entry, delayRow, delayTable}
-use Rattle.waits.specs.Waits.{at}
+use Rattle.delays.specs.Delays.{delayTable}
+use Rattle.delays.proofs.Table.{table-length}
 use Rattle.starts.specs.Starts.{turnRows}
 use Rattle.schedule.specs.declared.Acceptance.{Acceptance}
 use Rattle.schedule.specs.Schedule.{acceptanceRefusal, acceptance}
@@ -191,10 +187,6 @@ module _ (s : List ℕ) {r : Acceptance} (is : r ≡ acceptance s) where
         (number-same (sym timetable-checked) ∙ none)))
 
 -- ── A table written at the front of a list ──
-
-table-length : (n : ℕ) (es : List Edge) → length (delayTable n es) ≡ n * n
-unfolding delayTable delayRow
-table-length n es = rows-length n (delayRow n es) (λ a. length-tabulate n (λ b. entry (leastDelay n es a b))) n
 
 pub table-front : (n : ℕ) (es : List Edge) (past : List ℕ) {xs : List ℕ} → xs ≡ delayTable n es ++ past → take (n * n - 0) xs ≡ delayTable n es
 table-front n es past written =

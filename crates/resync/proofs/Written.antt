@@ -4,21 +4,20 @@ use mathlib.Core.Path.{_≡_, ap, _∙_, subst}
 use mathlib.Core.Logic.{_⊎_, inl, inr, _≢_}
 use mathlib.Core.List.{List, _++_}
 use Prim.Native.Nat.{ℕ, suc, _+_, _-_, _*_, _≤_, _<_}
-use native.Mathlib.Nat.{mul-comm, suc-mul, mul-le-mul-right}
+use native.Mathlib.Nat.{mul-comm}
 use native.Mathlib.Omega.{arith}
 use lib.ListN.{length, getD, drop, length-append, length-drop, List·getD-append}
 use lib.Seq.{getD-append-add, getD-drop}
+use Rattle.files.specs.Refusals.{ifPassed}
 use Rattle.model.specs.Graph.{edges, timeOf}
 use Rattle.model.specs.Runs.{estimates}
 use Rattle.model.specs.Compute.{leastDelay, earliest}
-use Rattle.records.proofs.Rows.{rows-length, rows-at}
+use Rattle.records.proofs.Rows.{rows-length, rows-at, place-within}
 use Rattle.records.proofs.Fill.{length-tabulate, getD-tabulate}
 use Rattle.files.specs.Files.{graphOf}
-use Rattle.files.proofs.First.{zero-or-not}
-use Rattle.readings.specs.Working.{ifPassed}
-use Rattle.readings.proofs.Answers.{if-passed, if-refused}
-use Rattle.delays.specs.Delays.{entry, delayRow, delayTable}
-use Rattle.delays.proofs.Row.{row-length}
+use Rattle.files.proofs.First.{zero-or-not, if-passed, if-refused}
+use Rattle.delays.specs.Delays.{entry}
+use Rattle.delays.proofs.Table.{table-length, table-at}
 use Rattle.starts.specs.Starts.{turnRow, turnRows}
 use Rattle.resync.specs.Calls.{tasksOf, tableOf, delaysRefusal, delaysAfter, startsOf, timetableRefusal, timetableAfter}
 use Rattle.resync.specs.Theorems.{DelaysKept, TimetableKept, DelaysPast, TimetablePast}
@@ -63,9 +62,9 @@ module _ (n k : ℕ) (written lent : List ℕ) (long : length written ≡ k) whe
 
 -- ── What the two calls write ──
 
-table-length : (s : List ℕ) → length (tableOf s) ≡ tasksOf s * tasksOf s
-unfolding tableOf delayTable
-table-length s = rows-length (tasksOf s) (delayRow (tasksOf s) (edges (graphOf s))) (row-length (tasksOf s) (edges (graphOf s))) (tasksOf s)
+table-long : (s : List ℕ) → length (tableOf s) ≡ tasksOf s * tasksOf s
+unfolding tableOf
+table-long s = table-length (tasksOf s) (edges (graphOf s))
 
 turn-length : (s : List ℕ) (k : ℕ) → length (turnRow (tasksOf s) (edges (graphOf s)) (timeOf (graphOf s)) k) ≡ tasksOf s
 unfolding turnRow
@@ -77,23 +76,16 @@ starts-length s turns =
     rows-length (tasksOf s) (λ k. turnRow (tasksOf s) (edges (graphOf s)) (timeOf (graphOf s)) (suc k)) (λ k. turn-length s (suc k)) turns ∙
     mul-comm turns (tasksOf s)
 
--- row a of a list of m rows of n numbers ends within it
-row-within : (n m a b : ℕ) → a < m → b < n → a * n + b < m * n
-row-within n m a b l k =
-    let whole : suc a * n ≤ m * n = mul-le-mul-right n l in
-    let next : suc a * n ≡ a * n + n = suc-mul a n in
-    omega arith
-
 -- the element of tasks a and b
-pub table-at :
+pub delay-at :
     (s table : List ℕ) → delaysRefusal s (length table) .number ≡ 0 → (a b : ℕ) → a < tasksOf s → b < tasksOf s →
     getD (delaysAfter s table) (a * tasksOf s + b) 0 ≡ entry (leastDelay (tasksOf s) (edges (graphOf s)) a b)
-unfolding delaysAfter tableOf delayTable delayRow
-table-at s table none a b l k =
+unfolding delaysAfter tableOf
+delay-at s table none a b l k =
     let n = tasksOf s in
     let es = edges (graphOf s) in
-    written-at (delaysRefusal s (length table) .number) (n * n) (tableOf s) table (table-length s) none (a * n + b) (row-within n n a b l k) ∙
-    (rows-at n (delayRow n es) (row-length n es) n a b l k ∙ getD-tabulate n (λ x. entry (leastDelay n es a x)) 0 b k)
+    written-at (delaysRefusal s (length table) .number) (n * n) (tableOf s) table (table-long s) none (a * n + b) (place-within n n a b l k) ∙
+    table-at n es a b l k
 
 -- the element of task v in turn k, counted here from 0
 pub starts-at :
@@ -104,7 +96,7 @@ starts-at s turns starts none v k l h =
     let n = tasksOf s in
     let es = edges (graphOf s) in
     let time = timeOf (graphOf s) in
-    let inside : k * n + v < n * turns = subst (λ (m : ℕ). k * n + v < m) (mul-comm turns n) (row-within n turns k v h l) in
+    let inside : k * n + v < n * turns = subst (λ (m : ℕ). k * n + v < m) (mul-comm turns n) (place-within n turns k v h l) in
     written-at (timetableRefusal s turns (length starts) .number) (n * turns) (startsOf s turns) starts (starts-length s turns) none (k * n + v) inside ∙
     (rows-at n (λ j. turnRow n es time (suc j)) (λ j. turn-length s (suc j)) turns k v h l ∙
     getD-tabulate n (λ x. earliest n es (estimates time) x (suc k)) 0 v l)
@@ -123,7 +115,7 @@ timetable-kept s turns starts some =
 pub delays-past : DelaysPast
 unfolding delaysAfter
 delays-past s table =
-    kept-past (delaysRefusal s (length table) .number) (tasksOf s * tasksOf s) (tableOf s) table (table-length s)
+    kept-past (delaysRefusal s (length table) .number) (tasksOf s * tasksOf s) (tableOf s) table (table-long s)
     (λ none. (delays-given s (length table)) .0 none .1)
 
 pub timetable-past : TimetablePast

@@ -9,9 +9,8 @@ use lib.ListN.{length, drop}
 use Rattle.model.specs.Graph.{count, edges, timeOf}
 use Rattle.model.specs.Compute.{isRedundant, latencyOf}
 use Rattle.files.specs.declared.Refusal.{Refusal}
-use Rattle.files.specs.Refusals.{refuse, first}
+use Rattle.files.specs.Refusals.{refuse, first, ifPassed}
 use Rattle.files.specs.Files.{graphOf}
-use Rattle.readings.specs.Working.{ifPassed}
 use Rattle.marks.specs.declared.Marks.{Marks}
 use Rattle.marks.specs.Marks.{marksOf, setBelow}
 use Rattle.delays.specs.Delays.{delayTable}

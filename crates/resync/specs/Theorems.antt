@@ -1,20 +1,22 @@
 -- What the answers of the calls on a graph mean, as statements: paths and runs. proofs/Meanings.antt proves them.
 use mathlib.Core.Path.{_≡_}
-use mathlib.Core.Logic.{_↔_, _⊎_}
+use mathlib.Core.Logic.{_↔_, _⊎_, _≢_}
 use mathlib.Core.List.{List, List·Memᴰ}
 use mathlib.Core.Option.{Option, some}
 use Prim.Native.Nat.{ℕ, _+_, _-_, _*_, _≤_, _<_}
+use lib.IntN.{pos}
 use lib.ListN.{length, getD}
 use Rattle.model.specs.Graph.{edges, timeOf}
 use Rattle.model.specs.Paths.{Least, Redundant, Latency}
-use Rattle.model.specs.Runs.{Times, Earliest, estimates}
+use Rattle.model.specs.Runs.{Times, ends, Earliest, estimates}
 use Rattle.model.specs.Proposals.{AcceptedGraph}
 use Rattle.model.specs.Theorems.{Decides}
+use Rattle.files.specs.declared.Refusal.{Refusal}
 use Rattle.files.specs.Files.{graphOf, graphRefusal}
 use Rattle.marks.specs.Marks.{markAt, setBelow, placesBelow}
 use Rattle.delays.specs.Delays.{entry}
 use Rattle.schedule.specs.Schedule.{acceptanceRefusal}
-use Rattle.resync.specs.Calls.{tasksOf, figuresOf, delaysRefusal, delaysAfter, redundantOf, timetableRefusal, timetableAfter}
+use Rattle.resync.specs.Calls.{outcome, roomRefusal, turnsRefusal, tasksOf, figuresOf, delaysRefusal, delaysAfter, noMarks, redundantOf, timetableRefusal, timetableAfter}
 
 -- The file's graph is accepted: none of 1 to 8 refuses the file, and the graph passes 9 to 12.
 abbrev pub AcceptedFile : List ℕ → Type 0
@@ -51,13 +53,43 @@ TimetableShort =
 abbrev pub TurnsOutside : Type 0
 TurnsOutside = (s : List ℕ) (turns room : ℕ) → (timetableRefusal s turns room .number ≡ 17) ↔ ((turns < 1) ⊎ (64 < turns))
 
+-- Every other refusal of these two calls is that of the file, with its place.
+abbrev pub DelaysRefused : Type 0
+DelaysRefused = (s : List ℕ) (room : ℕ) → acceptanceRefusal s .number ≢ 0 → delaysRefusal s room ≡ acceptanceRefusal s
+
+abbrev pub TimetableRefused : Type 0
+TimetableRefused =
+    (s : List ℕ) (turns room : ℕ) → 1 ≤ turns → turns ≤ 64 → acceptanceRefusal s .number ≢ 0 → timetableRefusal s turns room ≡ acceptanceRefusal s
+
+-- 16 and 17 name no place.
+abbrev pub ShortNoPlace : Type 0
+ShortNoPlace = (needed room : ℕ) → roomRefusal needed room .place ≡ 0
+
+abbrev pub OutsideNoPlace : Type 0
+OutsideNoPlace = (turns : ℕ) → turnsRefusal turns .place ≡ 0
+
+-- No outcome of these calls has a latency or a margin.
+abbrev pub OutcomePlain : Type 0
+OutcomePlain = (r : Refusal) → (outcome r .number ≡ r .number) × (outcome r .place ≡ r .place) × (outcome r .latency ≡ 0) × (outcome r .margin ≡ pos 0)
+
+-- A refused graph has no figures and no marks.
+abbrev pub FiguresRefused : Type 0
+FiguresRefused =
+    (s : List ℕ) → figuresOf s .outcome .number ≢ 0 →
+    (figuresOf s .outcome ≡ outcome (acceptanceRefusal s)) × (figuresOf s .tasks ≡ 0) × (figuresOf s .edges ≡ 0) × (figuresOf s .latency ≡ 0)
+
+abbrev pub RedundantRefused : Type 0
+RedundantRefused =
+    (s : List ℕ) → redundantOf s .outcome .number ≢ 0 →
+    (redundantOf s .outcome ≡ outcome (acceptanceRefusal s)) × (redundantOf s .marks ≡ noMarks) × (redundantOf s .count ≡ 0)
+
 -- A refused call changes no element.
 abbrev pub DelaysKept : Type 0
-DelaysKept = (s table : List ℕ) → (delaysRefusal s (length table) .number ≡ 0 → ⊥) → delaysAfter s table ≡ table
+DelaysKept = (s table : List ℕ) → delaysRefusal s (length table) .number ≢ 0 → delaysAfter s table ≡ table
 
 abbrev pub TimetableKept : Type 0
 TimetableKept =
-    (s : List ℕ) (turns : ℕ) (starts : List ℕ) → (timetableRefusal s turns (length starts) .number ≡ 0 → ⊥) → timetableAfter s turns starts ≡ starts
+    (s : List ℕ) (turns : ℕ) (starts : List ℕ) → timetableRefusal s turns (length starts) .number ≢ 0 → timetableAfter s turns starts ≡ starts
 
 -- A lent list keeps its length, and a successful call changes no element past what it writes.
 abbrev pub DelaysPast : Type 0
@@ -81,11 +113,18 @@ FiguresMean =
     (figuresOf s .tasks ≡ tasksOf s) × (figuresOf s .edges ≡ length (graphOf s .syncs)) ×
     Latency (edges (graphOf s)) (timeOf (graphOf s)) (graphOf s .output) (figuresOf s .latency)
 
+-- It is when the output ends in the first turn of the earliest run at the estimated times, of however many turns.
+abbrev pub FiguresRun : Type 0
+FiguresRun =
+    (s : List ℕ) → AcceptedFile s → (turns : ℕ) (start : Times) → 1 ≤ turns →
+    Earliest (tasksOf s) (edges (graphOf s)) turns start (estimates (timeOf (graphOf s))) →
+    ends start (estimates (timeOf (graphOf s))) (graphOf s .output) 1 ≡ figuresOf s .latency
+
 -- The element of tasks a and b is their least delay, 65,535 if there is no path; and no least delay is 65,535.
 abbrev pub DelaysMean : Type 0
 DelaysMean =
     (s table : List ℕ) → delaysRefusal s (length table) .number ≡ 0 → (a b : ℕ) → a < tasksOf s → b < tasksOf s →
-    (o : Option ℕ) → Least (edges (graphOf s)) a b o → getD (delaysAfter s table) (a * tasksOf s + b) 0 ≡ entry o
+    (o : Option ℕ) × Least (edges (graphOf s)) a b o × (getD (delaysAfter s table) (a * tasksOf s + b) 0 ≡ entry o)
 
 abbrev pub DelaysSmall : Type 0
 DelaysSmall = (s : List ℕ) → AcceptedFile s → (a b d : ℕ) → Least (edges (graphOf s)) a b (some d) → d < 65535

@@ -1,9 +1,7 @@
 // The calls on a graph. None asks anything of its caller; a refused one leaves the lent list as it was.
 ghost use mathlib.Core.Path.{_≡_};
 ghost use mathlib.Core.List.{[], _∷_};
-ghost use Prim.Native.Nat.{_≤_};
 ghost use lib.ListN.{length};
-ghost use Rattle.records.specs.Columns.{zeros};
 ghost use Rattle.files.specs.Refusals.{first};
 ghost use Rattle.marks.specs.Marks.{markAt, placesOf};
 ghost use Rattle.resync.specs.Calls.{outcome, roomRefusal, turnsRefusal, figuresOf, delaysRefusal, delaysAfter, noMarks, redundantOf, timetableRefusal, timetableAfter};
@@ -38,12 +36,14 @@ const TURNS_OUTSIDE: Refusal = Refusal {
     place: 0,
 };
 
+// A table to write into.
 fn blank_table() -> Table
     ensures { λ r. ⌜ length (r .delay) ≡ 4096 ⌝ }
 {
     Table { delay: [0; 4096] }
 }
 
+// No mark set.
 fn no_marks() -> Marks
     ensures { λ r. ⌜ r ≡ noMarks ⌝ }
 {
@@ -75,7 +75,7 @@ fn with_room(earlier: Refusal, needed: usize, room: usize) -> Refusal
     PASSED
 }
 
-// 17.
+// 17, for any number of turns.
 fn check_turns(turns: usize) -> Refusal
     ensures { λ r. ⌜ r ≡ turnsRefusal turns ⌝ }
 {

@@ -1,31 +1,30 @@
 -- What `accept` hands over is `acceptance` of the bytes: where reading refuses, the first part of the chain ends it; else the checks on the fronts of
 -- the lists are those of the graph that they hold.
-use mathlib.Core.Path.{_≡_, refl, sym, ap, _∙_}
+use mathlib.Core.Path.{_≡_, sym, ap, _∙_}
 use mathlib.Core.Logic.{_≢_}
 use mathlib.Core.List.{List, [], _∷_}
 use Prim.Native.Nat.{ℕ}
 use lib.ListN.{length}
-use Rattle.model.specs.Graph.{Graph, count, edges, timeOf}
+use Rattle.records.specs.Columns.{at}
 use Rattle.model.specs.Compute.{latency, latencyOf}
-use Rattle.waits.specs.Waits.{at}
 use Rattle.files.specs.declared.Refusal.{Refusal}
-use Rattle.files.specs.Refusals.{first}
+use Rattle.files.specs.Refusals.{ifPassed}
 use Rattle.files.specs.Files.{graphOf, graphRefusal}
-use Rattle.files.proofs.First.{passes, stops, last-answer, number-same}
+use Rattle.files.proofs.First.{passes, stops, last-answer, number-same, if-refused}
 use Rattle.readings.specs.declared.GraphReading.{GraphReading}
-use Rattle.readings.specs.Working.{ifPassed, graphReading}
+use Rattle.readings.specs.Working.{graphReading}
 use Rattle.readings.proofs.Held.{graph-refusal-given}
-use Rattle.readings.proofs.Answers.{if-refused}
 use Rattle.schedule.specs.declared.Acceptance.{Acceptance}
 use Rattle.schedule.specs.Schedule.{scheduleChecks, scheduleRefusal, acceptanceRefusal, acceptance}
+use Rattle.schedule.specs.Theorems.{RefusedBefore, JudgedAfter}
 use Rattle.schedule.proofs.Fronts.{front, frontEdges, Fronts, fronts}
 
 -- a file that passes up to 8 is judged by 9 to 12
-pub judged-after : (s : List ℕ) → graphRefusal s .number ≡ 0 → acceptanceRefusal s ≡ scheduleRefusal (graphOf s)
+pub judged-after : JudgedAfter
 unfolding acceptanceRefusal scheduleRefusal scheduleChecks
 judged-after s none = passes (graphRefusal s) (scheduleRefusal (graphOf s) ∷ []) none ∙ last-answer _
 
-pub refused-before : (s : List ℕ) → graphRefusal s .number ≢ 0 → acceptanceRefusal s ≡ graphRefusal s
+pub refused-before : RefusedBefore
 unfolding acceptanceRefusal
 refused-before s some = stops (graphRefusal s) (scheduleRefusal (graphOf s) ∷ []) some
 

@@ -11,11 +11,10 @@ use Rattle.model.specs.Tasks.{Task, Edge, noTask}
 use Rattle.model.specs.Graph.{Graph, WellFormed, count, edges, timeOf}
 use Rattle.model.proofs.Basics.{order}
 use Rattle.model.proofs.Graphs.{graph-ends, graph-delays}
-use Rattle.records.specs.Columns.{edgesOf, TimesOf, SourcesOf, SinksOf, DelaysOf}
+use Rattle.records.specs.Columns.{edgesOf, TimesOf, SourcesOf, SinksOf, DelaysOf, at}
 use Rattle.records.proofs.Fill.{length-tabulate}
 use Rattle.records.proofs.Edges.{edges-of-columns}
 use Rattle.delays.specs.Delays.{Fit}
-use Rattle.waits.specs.Waits.{at}
 use Rattle.starts.specs.Starts.{FileTimes}
 use Rattle.files.specs.Files.{graphOf, graphRefusal, edgeIn}
 use Rattle.readings.specs.declared.GraphReading.{GraphReading}

@@ -9,35 +9,32 @@ use native.Mathlib.Omega.{arith}
 use lib.Dec.{eqb, leb}
 use lib.ListN.{length, getD, List·getD-append}
 use borrow.Author.Tests.{eq-eqb, ne-eqb, le-leb, lt-leb}
-use Rattle.model.specs.Lists.{tabulate}
 use Rattle.model.specs.Tasks.{Edge}
 use Rattle.model.specs.Compute.{atMost, inputFree, zeroPath, joined, leastDelay}
-use Rattle.model.proofs.Basics.{is-true, is-false, order}
-use Rattle.model.proofs.Tests.{decides-true, decides-not}
+use Rattle.model.proofs.Basics.{order}
+use Rattle.model.proofs.Tests.{decides-yes, decides-no}
 use Rattle.model.proofs.Theorems.{input-free-is}
 use Rattle.records.specs.Columns.{heldEdge, edgesOf}
 use Rattle.records.proofs.Edges.{edge-in, edge-out}
-use Rattle.records.proofs.Fill.{length-tabulate, getD-tabulate}
 use Rattle.delays.specs.Delays.{entry, delayRow}
+use Rattle.delays.proofs.Table.{row-length, row-at}
 
 module _ (source sink delay : List ℕ) (input : ℕ) where
   pub input-found :
       (i : ℕ) → i < length source → getD sink i 0 ≡ input → getD delay i 0 ≡ 0 → inputFree (edgesOf source sink delay) input ≡ false
   unfolding heldEdge
   input-found i below to at-once =
-      is-false (inputFree (edgesOf source sink delay) input)
-      (decides-true (decides-not (input-free-is (edgesOf source sink delay) input))
-      (λ free. free (heldEdge source sink delay i) (edge-in source sink delay i below) to at-once))
+      decides-no (input-free-is (edgesOf source sink delay) input)
+      (λ free. free (heldEdge source sink delay i) (edge-in source sink delay i below) to at-once)
 
   pub input-clear :
       ((i : ℕ) → i < length source → getD sink i 0 ≡ input → getD delay i 0 ≡ 0 → ⊥) → inputFree (edgesOf source sink delay) input ≡ true
   unfolding heldEdge
   input-clear none-waits =
-      is-true (inputFree (edgesOf source sink delay) input)
-      (decides-true (input-free-is (edgesOf source sink delay) input)
+      decides-yes (input-free-is (edgesOf source sink delay) input)
       (λ e m to at-once.
       let i = edge-out source sink delay e m in
-      none-waits (i .0) (i .1) (ap (λ (f : Edge). f .sink) (sym (i .2)) ∙ to) (ap (λ (f : Edge). f .delay) (sym (i .2)) ∙ at-once)))
+      none-waits (i .0) (i .1) (ap (λ (f : Edge). f .sink) (sym (i .2)) ∙ to) (ap (λ (f : Edge). f .delay) (sym (i .2)) ∙ at-once))
 
 -- a 16-bit entry is 0 exactly if the delay is at most 0
 entry-zero : (o : Option ℕ) → eqb (entry o) 0 ≡ atMost o 0
@@ -53,13 +50,10 @@ entry-zero none = refl
 row-entry :
     (n : ℕ) (es : List Edge) (a b : ℕ) {m : ℕ} {ys : List ℕ} (past : List ℕ) → ys ≡ delayRow m es a → m ≡ n → b < n →
     getD (ys ++ past) b 0 ≡ entry (leastDelay n es a b)
-unfolding delayRow
 row-entry n es a b {m} {ys} past is as-many below =
-    let row : ys ≡ tabulate n (λ b. entry (leastDelay n es a b)) = is ∙ ap (λ (k : ℕ). delayRow k es a) as-many in
+    let row : ys ≡ delayRow n es a = is ∙ ap (λ (k : ℕ). delayRow k es a) as-many in
     ap (λ (zs : List ℕ). getD (zs ++ past) b 0) row ∙
-    (List·getD-append (tabulate n (λ b. entry (leastDelay n es a b))) past 0 b
-    (subst (λ (k : ℕ). b < k) (sym (length-tabulate n (λ b. entry (leastDelay n es a b)))) below) ∙
-    getD-tabulate n (λ b. entry (leastDelay n es a b)) 0 b below)
+    (List·getD-append (delayRow n es a) past 0 b (subst (λ (k : ℕ). b < k) (sym (row-length n es a)) below) ∙ row-at n es a b below)
 
 module _ (n : ℕ) (es : List Edge) (input output : ℕ) where
   pub same-task : input ≡ output → joined n es input output ≡ false

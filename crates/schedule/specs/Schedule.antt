@@ -7,9 +7,9 @@ use Rattle.model.specs.Tasks.{Edge}
 use Rattle.model.specs.Graph.{Graph, count, edges, timeOf}
 use Rattle.model.specs.Compute.{zeroCycle, inputFree, joined, latency, latencyOf}
 use Rattle.files.specs.declared.Refusal.{Refusal}
-use Rattle.files.specs.Refusals.{refuse, first}
+use Rattle.files.specs.Refusals.{refuse, first, ifPassed}
 use Rattle.files.specs.Files.{graphOf, graphRefusal}
-use Rattle.readings.specs.Working.{ifPassed, graphReading}
+use Rattle.readings.specs.Working.{graphReading}
 use Rattle.schedule.specs.declared.Acceptance.{Acceptance}
 
 -- "9: a cycle of total delay 0. 10: the input has an incoming edge of delay 0. 11: input equals output, or no path of delay 0 joins them. 12: the
@@ -31,7 +31,8 @@ scheduleRefusal g = scheduleChecks (count g) (edges g) (timeOf g) (g .input) (g 
 unfoldable pub acceptanceRefusal : List ℕ → Refusal
 acceptanceRefusal s = first (graphRefusal s ∷ scheduleRefusal (graphOf s) ∷ [])
 
--- What every call starts from: the refusal, the latency of an accepted graph, and the graph as read.
+-- What every call starts from: the refusal, the latency of an accepted graph (0 if refused), and the file as read. The reading's own refusal is of
+-- 1 to 8 only, so a graph that 9 to 12 refuse is still in it.
 unfoldable pub acceptance : List ℕ → Acceptance
 acceptance s = record {
   refusal = acceptanceRefusal s;

@@ -1,14 +1,12 @@
 // Refusals 9 to 12: what a schedule must have to be accepted. Every call on a graph starts from `accept`.
 ghost use mathlib.Core.Path.{_≡_};
-ghost use mathlib.Core.Bool.{false};
-ghost use Prim.Native.Nat.{ℕ, _≤_, _<_};
+ghost use Prim.Native.Nat.{_≤_, _<_};
 ghost use lib.ListN.{length};
+ghost use Rattle.files.specs.Refusals.{ifPassed};
 ghost use Rattle.model.specs.Compute.{inputFree, joined, latency};
-ghost use Rattle.records.specs.Columns.{edgesOf};
+ghost use Rattle.records.specs.Columns.{edgesOf, at};
 ghost use Rattle.delays.specs.Delays.{Fit};
-ghost use Rattle.waits.specs.Waits.{at};
 ghost use Rattle.starts.specs.Starts.{FileTimes};
-ghost use Rattle.readings.specs.Working.{ifPassed};
 ghost use Rattle.schedule.specs.Schedule.{scheduleChecks, acceptance};
 use delays::least_row;
 use files::Refusal;
@@ -16,7 +14,8 @@ use readings::GraphReading;
 use readings::read_graph;
 use starts::has_zero_cycle;
 
-// A graph file after all checks up to 12: the refusal, the latency of an accepted graph, and the graph as read.
+// A graph file after all checks up to 12: the refusal, the latency of an accepted graph (0 if refused), and the file as read. The
+// reading's own refusal is of 1 to 8 only, so a graph that 9 to 12 refuse is still in it.
 pub struct Acceptance {
     pub refusal: Refusal,
     pub latency: u32,
@@ -34,7 +33,7 @@ struct Row {
     delay: [u16; 64],
 }
 
-const ACCEPTED: Refusal = Refusal {
+const PASSED: Refusal = Refusal {
     number: 0,
     place: 0,
 };
@@ -59,6 +58,7 @@ const BOUND_BELOW: Refusal = Refusal {
     place: 0,
 };
 
+// A row to write into.
 fn blank_row() -> Row
     ensures { λ r. ⌜ length (r .delay) ≡ 64 ⌝ }
 {
@@ -149,7 +149,7 @@ fn check_schedule<'a>(
         };
     }
     Checked {
-        refusal: ACCEPTED,
+        refusal: PASSED,
         latency,
     }
 }

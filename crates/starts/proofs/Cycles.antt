@@ -1,5 +1,5 @@
 -- Starts that keep every edge of delay 0 are a run of one turn, so there is no cycle of delay 0; and where there is none, the earliest starts of a
--- turn keep those edges. So at times of 1 a cycle of delay 0 shows in starts that would have to pass the number of tasks.
+-- turn keep those edges. So at times of 1 a cycle of delay 0 shows in starts that would have to pass a limit not below the number of tasks.
 use mathlib.Core.Path.{_≡_, refl, sym, ap, _∙_, subst}
 use mathlib.Core.Logic.{_⊎_, inl, inr}
 use mathlib.Core.Bool.{Bool, true, false, not}

@@ -12,11 +12,10 @@ use Rattle.model.specs.Lists.{tabulate}
 use Rattle.model.specs.Tasks.{Edge}
 use Rattle.model.specs.Runs.{ends, estimates}
 use Rattle.model.specs.Compute.{earliest}
-use Rattle.records.specs.Columns.{zeros, rows}
+use Rattle.records.specs.Columns.{zeros, rows, at}
 use Rattle.records.proofs.Fill.{length-tabulate, getD-tabulate}
 use Rattle.records.proofs.Parts.{zeros-length, each-is}
 use Rattle.records.proofs.Rows.{rows-length, rows-at, rows-more}
-use Rattle.waits.specs.Waits.{at}
 use Rattle.starts.specs.Starts.{turnRow, turnRows, EndedBefore}
 use Rattle.starts.proofs.Turns.{row-length, row-at}
 

@@ -1,4 +1,4 @@
--- The arguments that the proofs of the functions cite.
+-- The proofs that other crates may cite.
 pub mod Limits
 pub mod Raised
 pub mod Cycles

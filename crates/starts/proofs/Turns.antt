@@ -7,7 +7,7 @@ use mathlib.Core.List.{List, _++_}
 use Prim.Native.Nat.{ℕ, _+_, _-_, _*_, _≤_, _<_}
 use native.Mathlib.Nat.{le-refl, le-antisymm, eq-or-lt-of-le, zero-mul}
 use native.Mathlib.Omega.{arith}
-use lib.Dec.{T, not-T, eqb, eqb-refl, eqb→eq}
+use lib.Dec.{not-T, eqb, eqb-refl, eqb→eq}
 use lib.ListN.{length, getD, getD-replicate, List·getD-append}
 use Rattle.model.specs.Lists.{tabulate}
 use Rattle.model.specs.Tasks.{Edge, _∈_, Ends}
@@ -16,10 +16,10 @@ use Rattle.model.specs.Runs.{Times, ends, Keeps, Allows, estimates}
 use Rattle.model.specs.Compute.{zeroCycle, earliest}
 use Rattle.model.proofs.Basics.{order, is-true, is-false}
 use Rattle.model.proofs.Earliest.{earliest-keeps, earliest-run}
-use Rattle.records.specs.Columns.{zeros}
+use Rattle.records.specs.Columns.{zeros, at}
 use Rattle.records.proofs.Fill.{length-tabulate, getD-tabulate}
 use Rattle.records.proofs.Parts.{zeros-length, each-is}
-use Rattle.waits.specs.Waits.{at, Settles, Awaits}
+use Rattle.waits.specs.Waits.{Settles, Awaits}
 use Rattle.starts.specs.Starts.{turnRow, FileTimes, EndedBefore}
 use Rattle.starts.proofs.Limits.{turn-fits}
 use Rattle.starts.proofs.Raised.{Waited, Settled}

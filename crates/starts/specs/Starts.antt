@@ -8,8 +8,7 @@ use Rattle.model.specs.Lists.{tabulate}
 use Rattle.model.specs.Tasks.{Edge}
 use Rattle.model.specs.Runs.{ends, estimates}
 use Rattle.model.specs.Compute.{earliest}
-use Rattle.records.specs.Columns.{rows}
-use Rattle.waits.specs.Waits.{at}
+use Rattle.records.specs.Columns.{rows, at}
 
 -- the earliest starts of n tasks in turn k at the estimated times
 unfoldable pub turnRow : ℕ → List Edge → (ℕ → ℕ) → ℕ → List ℕ

@@ -6,15 +6,14 @@ ghost use Prim.Native.Nat.{_*_, _≤_, _<_};
 ghost use lib.ListN.{length, drop, replicate};
 ghost use Rattle.model.specs.Tasks.{Ends};
 ghost use Rattle.model.specs.Compute.{zeroCycle, latency};
-ghost use Rattle.records.specs.Columns.{edgesOf, zeros};
-ghost use Rattle.waits.specs.Waits.{at};
+ghost use Rattle.records.specs.Columns.{edgesOf, zeros, at};
 ghost use Rattle.starts.specs.Starts.{turnRow, turnRows, FileTimes, EndedBefore};
 use waits::await_earlier;
 use waits::clear;
 use waits::ends_into;
 use waits::settle;
 
-// Above every end of 64 turns of 64 tasks whose times are at most 65,535.
+// Above every end of 64 turns of 64 tasks whose times are at most 65,535, with room for one time more in 32 bits.
 const FAR: u32 = 1073741824;
 
 // Times of up to 64 tasks.
@@ -53,7 +52,8 @@ fn no_ends() -> Ended
     Ended { end: [0; 4096] }
 }
 
-// Whether there is a cycle of delay 0: at times of 1, whether some first turn would start after as many units as there are tasks.
+// Whether there is a cycle of delay 0: at times of 1 a start would then have to pass every limit, and without such a cycle none
+// passes the number of tasks, which is at most 64.
 pub fn has_zero_cycle<'a>(source: &'a [u8], sink: &'a [u8], delay: &'a [u8], tasks: usize) -> bool
     requires { ⌜ (length (now sink) ≡ length (now source)) × (length (now delay) ≡ length (now source)) ⌝ }
     requires { ⌜ tasks ≤ 64 ⌝ }
@@ -96,6 +96,7 @@ pub fn turn_starts<'a>(
 {
     clear(row);
     await_earlier(source, sink, delay, ended, turn, row);
+    // Never false: no start passes the limit.
     settle(source, sink, delay, time, FAR, row);
 }
 
@@ -116,15 +117,14 @@ pub fn latency<'a>(
 {
     let tasks = time.len();
     let starts = no_starts();
-    let ends = no_ends();
     let mut start = starts.start;
-    let end = ends.end;
+    let none = starts.start;
     turn_starts(
         source,
         sink,
         delay,
         time,
-        &end[0..0],
+        &none[0..0],
         1,
         &mut start[0..tasks],
     );

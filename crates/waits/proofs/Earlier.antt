@@ -2,15 +2,16 @@
 -- keeps it. And where the ends of an earlier turn stand.
 use mathlib.Core.Path.{_≡_, refl, sym, subst, _∙_}
 use mathlib.Core.List.{List}
-use Prim.Native.Nat.{ℕ, suc, _+_, _-_, _*_, _≤_, _<_}
-use native.Mathlib.Nat.{le-refl, le-trans, suc-mul, mul-le-mul, mul-le-mul-right}
+use Prim.Native.Nat.{ℕ, _+_, _-_, _*_, _≤_, _<_}
+use native.Mathlib.Nat.{le-refl, le-trans}
 use native.Mathlib.Omega.{arith}
 use lib.ListN.{length, getD, set, length-set}
 use borrow.Author.Count.{below-more}
-use Rattle.model.specs.Tasks.{Edge, Ends}
-use Rattle.records.specs.Columns.{heldEdge, edgesOf}
+use Rattle.model.specs.Tasks.{Ends}
+use Rattle.records.specs.Columns.{heldEdge, edgesOf, at}
 use Rattle.records.proofs.Edges.{edge-in}
-use Rattle.waits.specs.Waits.{at, Awaits}
+use Rattle.records.proofs.Rows.{place-within, product-small}
+use Rattle.waits.specs.Waits.{Awaits}
 use Rattle.waits.proofs.Ends.{ends-inside, every-edge}
 use Rattle.waits.proofs.Lifts.{lifted-there, lifted-above, lifted-below}
 
@@ -19,12 +20,11 @@ use Rattle.waits.proofs.Lifts.{lifted-there, lifted-above, lifted-below
 module _ (turn d n : ℕ) where
   pub place-inside : (s m : ℕ) → 0 < d → d < turn → s < n → (turn - 1) * n ≤ m → (turn - 1 - d) * n + s < m
   place-inside s m late bound task long =
-      let rows : suc (turn - 1 - d) * n ≤ (turn - 1) * n = mul-le-mul-right n (omega arith) in
-      let last = suc-mul (turn - 1 - d) n in
-      omega arith
+      let within = place-within n (turn - 1) (turn - 1 - d) s (omega arith) task in
+      omega (arith, within)
 
   pub rows-small : turn ≤ 64 → n ≤ 64 → (turn - 1 - d) * n ≤ 4096
-  rows-small few small = let fewer : turn - 1 - d ≤ 64 = omega arith in mul-le-mul fewer small
+  rows-small few small = product-small (turn - 1 - d) n (omega arith) small
 
 -- ── The edges so far ──
 

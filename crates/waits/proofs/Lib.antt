@@ -1,3 +1,4 @@
+-- The proofs that other crates may cite.
 pub mod Fills
 pub mod Ends
 pub mod Lifts

@@ -8,9 +8,9 @@ use native.Mathlib.Nat.{le-refl, not-suc-le-zero}
 use native.Mathlib.Omega.{arith}
 use lib.ListN.{length, set}
 use lib.Seq.{getD-set-same, getD-set-other}
+use Rattle.records.specs.Columns.{at}
 use Rattle.model.specs.Lists.{sumBelow, sumOver, counted, always}
 use Rattle.model.proofs.Basics.{order, below-suc}
-use Rattle.waits.specs.Waits.{at}
 
 same-or-not : (v t : ℕ) → (v ≡ t) ⊎ (v ≡ t → ⊥)
 same-or-not v t = go (order v t) (order t v)

@@ -9,9 +9,9 @@ use lib.ListN.{length, getD, set, length-set}
 use borrow.Author.Count.{below-more}
 use Rattle.model.specs.Lists.{sumBelow}
 use Rattle.model.specs.Tasks.{Edge, Ends}
-use Rattle.records.specs.Columns.{heldEdge, edgesOf}
+use Rattle.records.specs.Columns.{heldEdge, edgesOf, at}
 use Rattle.records.proofs.Edges.{edge-in}
-use Rattle.waits.specs.Waits.{at, Settles}
+use Rattle.waits.specs.Waits.{Settles}
 use Rattle.waits.specs.Rounds.{room, Above, Raised}
 use Rattle.waits.proofs.Ends.{ends-inside, every-edge}
 use Rattle.waits.proofs.Lifts.{lifted-there, lifted-above, lifted-below, sum-falls}

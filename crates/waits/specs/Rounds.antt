@@ -1,12 +1,13 @@
--- What one round over the edges does to starts, for the contract of a function that is private here: it serves the proof of `settle`.
+-- Only for contracts inside: what one round over the edges does to starts.
 use mathlib.Core.Path.{_≡_}
 use mathlib.Core.Bool.{Bool, true, false}
 use mathlib.Core.List.{List}
 use Prim.Native.Nat.{ℕ, _+_, _-_, _≤_, _<_}
 use lib.ListN.{length}
+use Rattle.records.specs.Columns.{at}
 use Rattle.model.specs.Lists.{sumBelow}
 use Rattle.model.specs.Tasks.{Edge, _∈_}
-use Rattle.waits.specs.Waits.{at, Settles}
+use Rattle.waits.specs.Waits.{Settles}
 
 -- how far starts may rise up to a limit, all together
 unfoldable pub room : ℕ → List ℕ → ℕ

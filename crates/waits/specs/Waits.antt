@@ -1,13 +1,9 @@
--- Starts of one turn that keep the edges, for the contracts of the code that makes them: "turn k of b starts no earlier than turn k − d of a ends".
+-- Only for contracts inside: starts of one turn that keep the edges, "turn k of b starts no earlier than turn k − d of a ends".
 use mathlib.Core.Path.{_≡_}
 use mathlib.Core.List.{List}
 use Prim.Native.Nat.{ℕ, _+_, _-_, _*_, _≤_, _<_}
 use lib.ListN.{getD}
 use Rattle.model.specs.Tasks.{Edge, _∈_}
-
--- entry v of a list: an estimated time, a start
-unfoldable pub at : List ℕ → ℕ → ℕ
-at column v = getD column v 0
 
 -- Starts f of n tasks, nowhere below the given ones, keep every edge of delay 0.
 pub record Settles (n : ℕ) (es : List Edge) (time given f : ℕ → ℕ) : Type 0 where

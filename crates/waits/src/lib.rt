@@ -5,8 +5,8 @@ ghost use Prim.Native.Nat.{ℕ, _+_, _-_, _*_, _≤_, _<_};
 ghost use lib.ListN.{length};
 ghost use Rattle.model.specs.Lists.{tabulate};
 ghost use Rattle.model.specs.Tasks.{Ends};
-ghost use Rattle.records.specs.Columns.{edgesOf, zeros};
-ghost use Rattle.waits.specs.Waits.{at, Settles, Awaits};
+ghost use Rattle.records.specs.Columns.{edgesOf, zeros, at};
+ghost use Rattle.waits.specs.Waits.{Settles, Awaits};
 ghost use Rattle.waits.specs.Rounds.{Raised};
 
 // What one round over the edges did: whether it raised a start, and whether it ended because one would have to pass the limit.
@@ -67,7 +67,8 @@ fn raise<'a>(
     }
 }
 
-// Raises starts as little as possible until every edge of delay 0 is kept. False if one would have to pass the limit.
+// Raises starts as little as possible until every edge of delay 0 is kept. False if one would have to pass the limit; a limit
+// of at most 2^30 leaves room for a start and a time in 32 bits.
 pub fn settle<'a>(
     source: &'a [u8],
     sink: &'a [u8],

@@ -1,4 +1,4 @@
--- `delays::clear` meets its contract: after b turns the first b entries are 65,535.
+-- `delays::clear` meets its contract: after b steps the first b entries are 65,535.
 use Prim.Native.Nat.{_-_, _≤_, _<_}
 use native.Mathlib.Omega.{arith}
 use mathlib.Core.Path.{_≡_, refl}

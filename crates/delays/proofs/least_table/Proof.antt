@@ -1,4 +1,4 @@
--- `delays::least_table` meets its contract: after a turns the first a rows stand in front of what the list held.
+-- `delays::least_table` meets its contract: after a steps the first a rows stand in front of what the list held.
 use mathlib.Core.Path.{_≡_, refl, sym, ap, _∙_, subst}
 use mathlib.Core.List.{_++_}
 use Prim.Native.Nat.{ℕ, suc, _+_, _-_, _*_, _≤_}
@@ -10,7 +10,7 @@ use lib.ListN.{length, drop}
 use Rattle.records.specs.Columns.{edgesOf, rows}
 use Rattle.records.proofs.Rows.{rows-more}
 use Rattle.delays.specs.Delays.{delayRow, delayTable, Fit}
-use Rattle.delays.proofs.Row.{row-length}
+use Rattle.delays.proofs.Table.{row-length}
 use Rattle.delays.proofs.least_table.Statement.{statement}
 use Rattle.delays.proofs.least_table.Tie as tie
 

@@ -1,4 +1,4 @@
--- `records::processor_edges` meets its contract: after v turns the first v elements of the three lists are those of the first v edges.
+-- `records::processor_edges` meets its contract: after v steps the first v elements of the three lists are those of the first v edges.
 use mathlib.Core.Path.{_≡_, sym, ap, _∙_}
 use mathlib.Core.List.{List}
 use Prim.Native.Nat.{ℕ, _+_, _-_, _≤_, _<_}

@@ -1,4 +1,4 @@
--- `records::read_edges` meets its contract: after j turns the first j elements of the three lists are those of the first j edges.
+-- `records::read_edges` meets its contract: after j steps the first j elements of the three lists are those of the first j edges.
 use mathlib.Core.Path.{_≡_, refl, sym, ap, _∙_}
 use Prim.Native.Nat.{ℕ, _-_, _≤_, _<_}
 use native.Mathlib.Omega.{arith}

@@ -1,4 +1,4 @@
--- `records::read_tasks` meets its contract: after v turns the first v elements of both lists are those of the first v tasks.
+-- `records::read_tasks` meets its contract: after v steps the first v elements of both lists are those of the first v tasks.
 use mathlib.Core.Path.{_≡_, refl, sym, ap, _∙_}
 use Prim.Native.Nat.{ℕ, _-_, _≤_, _<_}
 use native.Mathlib.Omega.{arith}

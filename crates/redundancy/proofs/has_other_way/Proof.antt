@@ -8,8 +8,8 @@ use native.Mathlib.Omega.{arith}
 use lib.Dec.{T}
 use lib.ListN.{length}
 use borrow.Author.Count.{below-none, below-more}
+use Rattle.model.specs.Theorems.{Way}
 use Rattle.records.specs.Columns.{heldEdge, edgesOf}
-use Rattle.redundancy.specs.Redundancy.{Way}
 use Rattle.redundancy.proofs.Others.{other-way-found, no-other-way}
 use Rattle.redundancy.proofs.has_other_way.Statement.{statement}
 use Rattle.redundancy.proofs.has_other_way.Tie as tie

@@ -10,7 +10,8 @@ use Rattle.model.proofs.Tests.{decides-iff}
 use Rattle.records.specs.Columns.{heldEdge, edgesOf}
 use Rattle.records.proofs.Edges.{edge-in}
 use Rattle.redundancy.specs.Redundancy.{Tabled}
-use Rattle.redundancy.proofs.Ways.{table-length, way-decided}
+use Rattle.delays.proofs.Table.{table-length}
+use Rattle.redundancy.proofs.Ways.{way-decided}
 use Rattle.redundancy.proofs.is_way.Statement.{statement}
 use Rattle.redundancy.proofs.is_way.Tie as tie
 

@@ -1,5 +1,5 @@
--- `redundancy::mark_word` meets its contract: after j turns the word is the number of the first j marks, and below 2 to the j, so it fits.
-use mathlib.Core.Path.{_≡_, ap, subst}
+-- `redundancy::mark_word` meets its contract: after j steps the word is the number of the first j marks, and below 2 to the j, so it fits.
+use mathlib.Core.Path.{_≡_, subst}
 use Prim.Native.Nat.{ℕ, _+_, _*_, _-_, _^_, _≤_, _<_}
 use native.Mathlib.Omega.{arith}
 use Rattle.model.specs.Graph.{Graph}

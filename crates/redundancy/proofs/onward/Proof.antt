@@ -3,7 +3,7 @@ use mathlib.Core.Path.{refl}
 use mathlib.Core.Logic.{inl, inr}
 use Prim.Native.Nat.{_+_, _*_}
 use native.Mathlib.Omega.{arith}
-use Rattle.redundancy.proofs.Ways.{entry-below, few-entries}
+use Rattle.records.proofs.Rows.{place-within, product-small}
 use Rattle.redundancy.proofs.onward.Statement.{statement}
 use Rattle.redundancy.proofs.onward.Tie as tie
 
@@ -12,23 +12,27 @@ returns c = (omega arith, inl (c .if1 .taken, refl))
 
 mul-result : tie.Need-mul-result
 mul-result c =
+    let args = c .before .args in
     let asked = c .before .pre in
-    omega (arith, entry-below (asked .1) (asked .2), few-entries (asked .0))
+    omega (arith, place-within (args .tasks) (args .tasks) (args .next) (args .to) (asked .1) (asked .2), product-small (args .tasks) (args .tasks) (asked .0) (asked .0))
 
 add-result : tie.Need-add-result
 add-result c =
+    let args = c .before .args in
     let asked = c .before .pre in
-    omega (arith, entry-below (asked .1) (asked .2), few-entries (asked .0))
+    omega (arith, place-within (args .tasks) (args .tasks) (args .next) (args .to) (asked .1) (asked .2), product-small (args .tasks) (args .tasks) (asked .0) (asked .0))
 
 mul-result-2 : tie.Need-mul-result-2
 mul-result-2 c =
+    let args = c .before .args in
     let asked = c .before .pre in
-    omega (arith, entry-below (asked .1) (asked .2), few-entries (asked .0))
+    omega (arith, place-within (args .tasks) (args .tasks) (args .next) (args .to) (asked .1) (asked .2), product-small (args .tasks) (args .tasks) (asked .0) (asked .0))
 
 shared-slice-read-result : tie.Need-shared-slice-read-result
 shared-slice-read-result c =
+    let args = c .before .before .args in
     let asked = c .before .before .pre in
-    omega (arith, entry-below (asked .1) (asked .2), asked .3)
+    omega (arith, place-within (args .tasks) (args .tasks) (args .next) (args .to) (asked .1) (asked .2), asked .3)
 
 cast-result : tie.Need-cast-result
 cast-result c =

@@ -3,10 +3,9 @@ use mathlib.Core.Path.{refl, sym, _∙_}
 use native.Mathlib.Omega.{arith}
 use lib.ListN.{length}
 use borrow.Author.Tests.{not-true, not-false}
+use Rattle.files.proofs.First.{if-passed, if-refused}
 use Rattle.model.specs.Compute.{latency}
-use Rattle.records.specs.Columns.{edgesOf}
-use Rattle.waits.specs.Waits.{at}
-use Rattle.readings.proofs.Answers.{if-passed, if-refused}
+use Rattle.records.specs.Columns.{edgesOf, at}
 use Rattle.schedule.proofs.Chain.{stops-9, stops-10, stops-11, stops-12, passed}
 use borrow.Author.Needs.{needs}
 use Rattle.schedule.proofs.check_schedule.Statement.{statement}

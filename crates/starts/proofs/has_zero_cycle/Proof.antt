@@ -1,12 +1,11 @@
 -- `starts::has_zero_cycle` meets its contract: at times of 1 from starts of 0, the starts settle within the limit exactly if there is no cycle of
 -- delay 0.
 use mathlib.Core.Path.{sym, subst, _∙_}
-use Prim.Native.Nat.{ℕ, _-_, _<_}
+use Prim.Native.Nat.{ℕ, _<_}
 use native.Mathlib.Omega.{arith}
 use borrow.Author.Needs.{needs}
 use Rattle.model.specs.Tasks.{Ends}
 use Rattle.records.specs.Columns.{edgesOf, zeros}
-use Rattle.waits.specs.Waits.{at}
 use Rattle.starts.proofs.Cycles.{cycle-test}
 use Rattle.starts.proofs.Fronts.{front-room, front-length, front-at}
 use Rattle.starts.proofs.has_zero_cycle.Statement.{statement}

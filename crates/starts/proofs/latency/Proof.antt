@@ -11,8 +11,7 @@ use borrow.Author.Needs.{needs}
 use Rattle.model.specs.Tasks.{Ends}
 use Rattle.model.specs.Runs.{estimates}
 use Rattle.model.specs.Compute.{zeroCycle, earliest, latency}
-use Rattle.records.specs.Columns.{edgesOf, zeros}
-use Rattle.waits.specs.Waits.{at}
+use Rattle.records.specs.Columns.{edgesOf, zeros, at}
 use Rattle.starts.specs.Starts.{turnRow}
 use Rattle.starts.proofs.Limits.{end-as-u32}
 use Rattle.starts.proofs.Turns.{Ready, end-fits, row-in-front, none-ended}
@@ -28,24 +27,21 @@ ready s =
 
 -- the output's start in the list of starts with the first turn at its front
 first-start : (t : tie.After-turn-starts) (rest : List ℕ) →
-    let start = t .before .before .before .before .before .before .before .before .before .before .before .before in
+    let start = t .before .before .before .before .before .before .before .before .before .before .before in
     at (t .turn-starts .last .1 .1 .1 .1 .1 .1 .0 ++ rest) (start .args .output) ≡
     earliest (length (start .args .time .now)) (edgesOf (start .args .source .now) (start .args .sink .now) (start .args .delay .now))
     (estimates (at (start .args .time .now))) (start .args .output) 1
 unfolding zeros
 first-start t rest =
-    let start = t .before .before .before .before .before .before .before .before .before .before .before .before in
+    let start = t .before .before .before .before .before .before .before .before .before .before .before in
     let es = edgesOf (start .args .source .now) (start .args .sink .now) (start .args .delay .now) in
     let time = at (start .args .time .now) in
-    let width = front-length 64 0 (t .before .before .before .before .before .before .before .no-starts .ensures) (start .pre .1 .0 .0) in
+    let width = front-length 64 0 (t .before .before .before .before .before .before .no-starts .ensures) (start .pre .1 .0 .0) in
     row-in-front (length (start .args .time .now)) es time 1 (t .turn-starts .ensures ∙ ap (λ (m : ℕ). turnRow m es time 1) width) rest
     (start .args .output) (start .pre .1 .0 .1)
 
 no-starts-requires : tie.Need-no-starts-requires
 no-starts-requires c κs = search needs
-
-no-ends-requires : tie.Need-no-ends-requires
-no-ends-requires c κs = search needs
 
 sub-turn-starts : tie.Need-sub-turn-starts
 sub-turn-starts c = search needs
@@ -65,14 +61,14 @@ part-start-start c = search needs
 part-start-end : tie.Need-part-start-end
 unfolding zeros
 part-start-end c =
-    let start = c .before .before .before .before .before .before .before .before .before .before in
-    front-room 64 0 (c .before .before .before .before .before .no-starts .ensures) (start .pre .1 .0 .0)
+    let start = c .before .before .before .before .before .before .before .before .before in
+    front-room 64 0 (c .before .before .before .before .no-starts .ensures) (start .pre .1 .0 .0)
 
 turn-starts-requires : tie.Need-turn-starts-requires
 unfolding zeros
 turn-starts-requires c κs =
-    let start = c .before .before .before .before .before .before .before .before .before .before .before in
-    let blank = c .before .before .before .before .before .before .no-starts .ensures in
+    let start = c .before .before .before .before .before .before .before .before .before .before in
+    let blank = c .before .before .before .before .before .no-starts .ensures in
     let asked = start .pre in
     let es = edgesOf (start .args .source .now) (start .args .sink .now) (start .args .delay .now) in
     let same = sym (front-length 64 0 blank (asked .1 .0 .0)) in (
@@ -107,14 +103,14 @@ cast-result c = fits-widen tt (c .shared-slice-known5 .given _)
 add-result : tie.Need-add-result
 unfolding at
 add-result c =
-    let start = c .before .before .before .before .before .before .before .before .before .before .before .before .before .before in
+    let start = c .before .before .before .before .before .before .before .before .before .before .before .before .before in
     let end = end-fits (ready start) (le-refl 1) (omega arith) (start .args .output) (start .pre .1 .0 .1) in
     end-as-u32 (subst (λ (x : ℕ). x ≤ 268435456) (sym (first-start (c .before .before) _)) (omega arith)) (c .shared-slice-known5 .given _)
 
 returns : tie.Need-returns
 unfolding at latency
 returns c =
-    let start = c .before .before .before .before .before .before .before .before .before .before .before .before .before .before in
+    let start = c .before .before .before .before .before .before .before .before .before .before .before .before .before in
     ap (λ (x : ℕ). x + at (start .args .time .now) (start .args .output)) (first-start (c .before .before) _)
 
 pub latency-spec : {M : Type 1} → statement M
@@ -122,7 +118,6 @@ latency-spec =
     tie.close
     (tie.spec
     no-starts-requires
-    no-ends-requires
     sub-turn-starts
     part-turn-starts-start
     part-turn-starts-end

@@ -8,7 +8,6 @@ use borrow.Author.Needs.{needs}
 use Rattle.model.specs.Tasks.{Ends}
 use Rattle.records.specs.Columns.{edgesOf}
 use Rattle.records.proofs.Parts.{zeros-length}
-use Rattle.waits.specs.Waits.{at}
 use Rattle.starts.proofs.Turns.{Ready, waited-fits, turn-row}
 use Rattle.starts.proofs.turn_starts.Statement.{statement}
 use Rattle.starts.proofs.turn_starts.Tie as tie

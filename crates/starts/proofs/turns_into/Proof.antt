@@ -4,13 +4,12 @@ use mathlib.Core.Bool.{false}
 use Prim.Native.Nat.{ℕ, _+_, _-_, _≤_, _<_}
 use native.Mathlib.Nat.{le-trans, le-add-right}
 use native.Mathlib.Omega.{arith}
-use lib.ListN.{length, take}
+use lib.ListN.{length}
 use borrow.Author.Needs.{needs}
 use borrow.Rule.Slice.PartMut.{midOf, putMid}
 use Rattle.model.specs.Tasks.{Ends}
 use Rattle.model.specs.Compute.{zeroCycle}
-use Rattle.records.specs.Columns.{edgesOf}
-use Rattle.waits.specs.Waits.{at}
+use Rattle.records.specs.Columns.{edgesOf, at}
 use Rattle.starts.specs.Starts.{turnRow}
 use Rattle.starts.proofs.Turns.{Ready, end-fits, row-length, row-at}
 use Rattle.starts.proofs.Filling.{Turned, put-length, Room, turned-none, turn-room, part-length, ended-before, ends-row, mid-put, turned-more, turned-all}

@@ -1,9 +1,9 @@
--- `waits::await_earlier` meets its contract: after j turns, what `Waited` says holds of the starts.
+-- `waits::await_earlier` meets its contract: after j steps the starts keep the first j of these edges, and are no later than any that keep all.
 use mathlib.Core.Logic.{⊎-elim}
 use Prim.Native.Nat.{_-_, _≤_}
 use native.Mathlib.Omega.{arith}
 use lib.ListN.{length, getD}
-use Rattle.waits.specs.Waits.{at}
+use Rattle.records.specs.Columns.{at}
 use Rattle.waits.proofs.Ends.{ends-inside}
 use Rattle.waits.proofs.Earlier.{Waited, waited-none, waited-kept, waited-raised, waited-all, place-inside, rows-small}
 use Rattle.waits.proofs.await_earlier.Statement.{statement}

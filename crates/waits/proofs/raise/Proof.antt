@@ -1,9 +1,9 @@
--- `waits::raise` meets its contract: after j turns, what `Sofar` says holds of the starts.
+-- `waits::raise` meets its contract: after j steps the starts are no later than any that keep all edges of delay 0, and if none changed, they keep the first j.
 use mathlib.Core.Logic.{⊎-elim}
 use Prim.Native.Nat.{_-_, _≤_}
 use native.Mathlib.Omega.{arith}
 use lib.ListN.{length, getD}
-use Rattle.waits.specs.Waits.{at}
+use Rattle.records.specs.Columns.{at}
 use Rattle.waits.proofs.Ends.{ends-inside}
 use Rattle.waits.proofs.Rounds.{Sofar, sofar-none, sofar-kept, sofar-raised, sofar-stuck, sofar-all}
 use Rattle.waits.proofs.raise.Statement.{statement}

@@ -1,13 +1,11 @@
 -- `waits::settle` meets its contract: round by round the starts rise, and stay below all starts that keep the edges; the room that is left
 -- falls with each round that changes a start.
 use mathlib.Core.Path.{_≡_, sym, subst, _∙_}
-use Prim.Native.Nat.{ℕ, _-_, _<_}
+use Prim.Native.Nat.{ℕ, _<_}
 use native.Mathlib.Omega.{arith}
 use borrow.Author.Tests.{not-true, not-false}
-use lib.ListN.{length}
 use Rattle.model.specs.Tasks.{Ends}
-use Rattle.records.specs.Columns.{edgesOf}
-use Rattle.waits.specs.Waits.{at}
+use Rattle.records.specs.Columns.{edgesOf, at}
 use Rattle.waits.specs.Rounds.{room, Above}
 use Rattle.waits.proofs.Rounds.{above-none, above-more, settled, never-settled}
 use Rattle.waits.proofs.settle.Statement.{statement}

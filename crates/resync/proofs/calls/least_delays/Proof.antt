@@ -2,7 +2,8 @@
 -- table is the graph's.
 use native.Mathlib.Omega.{arith}
 use Rattle.schedule.proofs.Fronts.{edges-within}
-use Rattle.resync.proofs.Checked.{few-tasks, well-formed, read-fronts, read-fit, product-small}
+use Rattle.records.proofs.Rows.{product-small}
+use Rattle.resync.proofs.Checked.{few-tasks, well-formed, read-fronts, read-fit}
 use Rattle.resync.proofs.Results.{delays-told, delays-room, delays-kept, delays-written}
 use borrow.Author.Needs.{needs}
 use Rattle.resync.proofs.calls.least_delays.Statement.{statement}

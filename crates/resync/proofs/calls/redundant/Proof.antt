@@ -5,7 +5,8 @@ use native.Mathlib.Omega.{arith}
 use Rattle.files.specs.Files.{graphOf}
 use Rattle.redundancy.specs.Redundancy.{HeldGraph}
 use Rattle.schedule.proofs.Fronts.{frontEdges, edges-within}
-use Rattle.resync.proofs.Checked.{few-tasks, well-formed, accepted, read-fronts, read-fit, product-small}
+use Rattle.records.proofs.Rows.{product-small}
+use Rattle.resync.proofs.Checked.{few-tasks, well-formed, accepted, read-fronts, read-fit}
 use Rattle.resync.proofs.Results.{redundant-refused, redundant-read, table-front, table-room}
 use borrow.Author.Needs.{needs}
 use Rattle.resync.proofs.calls.redundant.Statement.{statement}

@@ -11,7 +11,8 @@ use Rattle.model.specs.Compute.{zeroCycle}
 use Rattle.files.specs.Files.{graphOf}
 use Rattle.files.proofs.First.{number-same}
 use Rattle.schedule.proofs.Fronts.{front, frontEdges, graph-fit, file-times, edges-within, tasks-within}
-use Rattle.resync.proofs.Checked.{few-tasks, well-formed, read-fronts, acyclic, product-small, turns-known}
+use Rattle.records.proofs.Rows.{product-small}
+use Rattle.resync.proofs.Checked.{few-tasks, well-formed, read-fronts, acyclic, turns-known}
 use Rattle.resync.proofs.Results.{turns-told, turns-kept, timetable-told, timetable-room, timetable-kept, timetable-written}
 use borrow.Author.Needs.{needs}
 use Rattle.resync.proofs.calls.timetable.Statement.{statement}
