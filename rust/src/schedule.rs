@@ -1,8 +1,9 @@
 //! An independent judge of schedules, to compare the proved calls on a graph with.
 //!
-//! It is written from document 01's definitions, as plainly as possible and without regard to speed: least delays by going
-//! through every sum of delays there is, redundant edges by leaving each out in turn, latency by going back along the paths,
-//! the timetable by running the desk. It shares no code with the other side.
+//! It is written from the memorandum (document 000) as document 01 reads it, as plainly as possible and without regard to speed:
+//! least delays by going through every sum of delays there is (000's rho, over paths of one or more edges), redundant edges by
+//! leaving each out ("if its removal yields a graph that preserves G"), latency by going back along the paths (Theorem 2, counted
+//! from time zero), the timetable by running the desk. It shares no code with the other side.
 
 use crate::checker::{processor_edges, read_graph, refuse, Edge, Graph, Refusal};
 use std::collections::BTreeSet;

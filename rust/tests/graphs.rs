@@ -753,7 +753,8 @@ type Fault = (
     fn(&mut Vec<u8>),
 );
 
-/// Makes every set of faults: the answer must be that of the first, in document 01's sequence.
+/// Makes every set of faults: the answer must be that of the first, in document 01's sequence. Of the file's own refusals one fault
+/// each stands here; `files.rs` has all of them, with their sequence among themselves.
 #[test]
 fn sequence_of_refusals() {
     let faults: [Fault; 16] = [

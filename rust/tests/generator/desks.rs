@@ -201,7 +201,8 @@ fn add_edge(graph: &mut Graph, edge: Edge) {
     }
 }
 
-/// Adds an edge, in place of another if there are 256, at any place.
+/// Adds an edge, in place of another if there are 256, at any place. If the graph would not stay well-formed, none is added, and of
+/// 256 one is still gone.
 fn put_edge(g: &mut Generator, graph: &mut Graph, edge: Edge) {
     if graph.edges.len() == 256 {
         let place = g.between(0, 255);
