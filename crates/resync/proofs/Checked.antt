@@ -38,15 +38,15 @@ module _ (earlier : Refusal) (needed room : ℕ) where
   refused-earlier some = stops earlier (roomRefusal needed room ∷ []) some
 
   module _ (none : earlier .number ≡ 0) where
-    pub too-short : room < needed → first (earlier ∷ roomRefusal needed room ∷ []) ≡ record { number = 16; place = 0 }
-    unfolding roomRefusal
-    too-short short =
-        passes earlier (roomRefusal needed room ∷ []) none ∙ check-stops 16 0 [] (λ z. omega arith) (lt-ltb room needed short)
-
     pub long-enough : needed ≤ room → first (earlier ∷ roomRefusal needed room ∷ []) ≡ notRefused
     unfolding roomRefusal
     long-enough long =
         passes earlier (roomRefusal needed room ∷ []) none ∙ (check-passes 16 0 [] (le-ltb room needed long) ∙ no-checks)
+
+    pub too-short : room < needed → first (earlier ∷ roomRefusal needed room ∷ []) ≡ record { number = 16; place = 0 }
+    unfolding roomRefusal
+    too-short short =
+        passes earlier (roomRefusal needed room ∷ []) none ∙ check-stops 16 0 [] (λ z. omega arith) (lt-ltb room needed short)
 
   -- nothing refused: nothing earlier, and there is room
   pub room-there : first (earlier ∷ roomRefusal needed room ∷ []) .number ≡ 0 → (earlier .number ≡ 0) × (needed ≤ room)

@@ -151,14 +151,11 @@ pub redundant-given : RedundantGiven
 unfolding redundantOf outcome
 redundant-given s = accepted-iff-passed s
 
-pub delays-given : DelaysGiven
-unfolding delaysRefusal
-delays-given s room = accepted-given (tasksOf s * tasksOf s) room s
-
-pub timetable-given : TimetableGiven
-unfolding timetableRefusal
-timetable-given s turns room =
-    turns-then turns (acceptanceRefusal s ∷ roomRefusal (tasksOf s * turns) room ∷ []) 0 (λ z. omega arith) (accepted-given (tasksOf s * turns) room s)
+pub turns-outside : TurnsOutside
+unfolding timetableRefusal turnsRefusal
+turns-outside s turns room =
+    gives-it (outside-decides turns) 17 (λ z. omega arith) (acceptanceRefusal s ∷ roomRefusal (tasksOf s * turns) room ∷ [])
+    (accepted-not-17 (tasksOf s * turns) room s)
 
 pub delays-short : DelaysShort
 unfolding delaysRefusal
@@ -169,11 +166,14 @@ unfolding timetableRefusal
 timetable-short s turns room =
     turns-then turns (acceptanceRefusal s ∷ roomRefusal (tasksOf s * turns) room ∷ []) 16 (λ z. omega arith) (accepted-short (tasksOf s * turns) room s)
 
-pub turns-outside : TurnsOutside
-unfolding timetableRefusal turnsRefusal
-turns-outside s turns room =
-    gives-it (outside-decides turns) 17 (λ z. omega arith) (acceptanceRefusal s ∷ roomRefusal (tasksOf s * turns) room ∷ [])
-    (accepted-not-17 (tasksOf s * turns) room s)
+pub delays-given : DelaysGiven
+unfolding delaysRefusal
+delays-given s room = accepted-given (tasksOf s * tasksOf s) room s
+
+pub timetable-given : TimetableGiven
+unfolding timetableRefusal
+timetable-given s turns room =
+    turns-then turns (acceptanceRefusal s ∷ roomRefusal (tasksOf s * turns) room ∷ []) 0 (λ z. omega arith) (accepted-given (tasksOf s * turns) room s)
 
 -- ── Refused answers ──
 

@@ -1,6 +1,6 @@
 -- The lent list after a call: what was written, then what the list held past it, or the list as it was. So it keeps its length and all that stands past
 -- the written part; and each row of what was written stands at its place.
-use mathlib.Core.Path.{_≡_, ap, _∙_, subst}
+use mathlib.Core.Path.{_≡_, refl, ap, _∙_, subst}
 use mathlib.Core.Logic.{_⊎_, inl, inr, _≢_}
 use mathlib.Core.List.{List, _++_}
 use Prim.Native.Nat.{ℕ, suc, _+_, _-_, _*_, _≤_, _<_}
@@ -13,12 +13,13 @@ use Rattle.model.specs.Graph.{edges, timeOf}
 use Rattle.model.specs.Runs.{estimates}
 use Rattle.model.specs.Compute.{leastDelay, earliest}
 use Rattle.records.proofs.Rows.{rows-length, rows-at, place-within}
-use Rattle.records.proofs.Fill.{length-tabulate, getD-tabulate}
+use Rattle.records.proofs.Fill.{getD-tabulate}
 use Rattle.files.specs.Files.{graphOf}
 use Rattle.files.proofs.First.{zero-or-not, if-passed, if-refused}
 use Rattle.delays.specs.Delays.{entry}
 use Rattle.delays.proofs.Table.{table-length, table-at}
 use Rattle.starts.specs.Starts.{turnRow, turnRows}
+use Rattle.starts.proofs.Turns.{row-length}
 use Rattle.resync.specs.Calls.{tasksOf, tableOf, delaysRefusal, delaysAfter, startsOf, timetableRefusal, timetableAfter}
 use Rattle.resync.specs.Theorems.{DelaysKept, TimetableKept, DelaysPast, TimetablePast}
 use Rattle.resync.proofs.Given.{delays-given, timetable-given}
@@ -67,14 +68,37 @@ unfolding tableOf
 table-long s = table-length (tasksOf s) (edges (graphOf s))
 
 turn-length : (s : List ℕ) (k : ℕ) → length (turnRow (tasksOf s) (edges (graphOf s)) (timeOf (graphOf s)) k) ≡ tasksOf s
-unfolding turnRow
-turn-length s k = length-tabulate (tasksOf s) (λ v. earliest (tasksOf s) (edges (graphOf s)) (estimates (timeOf (graphOf s))) v k)
+turn-length s k = row-length (tasksOf s) (edges (graphOf s)) (timeOf (graphOf s)) k refl
 
 starts-length : (s : List ℕ) (turns : ℕ) → length (startsOf s turns) ≡ tasksOf s * turns
 unfolding startsOf turnRows
 starts-length s turns =
     rows-length (tasksOf s) (λ k. turnRow (tasksOf s) (edges (graphOf s)) (timeOf (graphOf s)) (suc k)) (λ k. turn-length s (suc k)) turns ∙
     mul-comm turns (tasksOf s)
+
+-- ── What they leave as it was ──
+
+pub delays-kept : DelaysKept
+unfolding delaysAfter
+delays-kept s table some = if-refused (delaysRefusal s (length table) .number) _ table some
+
+pub timetable-kept : TimetableKept
+unfolding timetableAfter
+timetable-kept s turns starts some = if-refused (timetableRefusal s turns (length starts) .number) _ starts some
+
+pub delays-past : DelaysPast
+unfolding delaysAfter
+delays-past s table =
+    kept-past (delaysRefusal s (length table) .number) (tasksOf s * tasksOf s) (tableOf s) table (table-long s)
+    (λ none. (delays-given s (length table)) .0 none .1)
+
+pub timetable-past : TimetablePast
+unfolding timetableAfter
+timetable-past s turns starts =
+    kept-past (timetableRefusal s turns (length starts) .number) (tasksOf s * turns) (startsOf s turns) starts (starts-length s turns)
+    (λ none. (timetable-given s turns (length starts)) .0 none .3)
+
+-- ── Where each element of what they write stands ──
 
 -- the element of tasks a and b
 pub delay-at :
@@ -100,26 +124,3 @@ starts-at s turns starts none v k l h =
     written-at (timetableRefusal s turns (length starts) .number) (n * turns) (startsOf s turns) starts (starts-length s turns) none (k * n + v) inside ∙
     (rows-at n (λ j. turnRow n es time (suc j)) (λ j. turn-length s (suc j)) turns k v h l ∙
     getD-tabulate n (λ x. earliest n es (estimates time) x (suc k)) 0 v l)
-
--- ── The calls ──
-
-pub delays-kept : DelaysKept
-unfolding delaysAfter
-delays-kept s table some = if-refused (delaysRefusal s (length table) .number) (tableOf s ++ drop (tasksOf s * tasksOf s) table) table some
-
-pub timetable-kept : TimetableKept
-unfolding timetableAfter
-timetable-kept s turns starts some =
-    if-refused (timetableRefusal s turns (length starts) .number) (startsOf s turns ++ drop (tasksOf s * turns) starts) starts some
-
-pub delays-past : DelaysPast
-unfolding delaysAfter
-delays-past s table =
-    kept-past (delaysRefusal s (length table) .number) (tasksOf s * tasksOf s) (tableOf s) table (table-long s)
-    (λ none. (delays-given s (length table)) .0 none .1)
-
-pub timetable-past : TimetablePast
-unfolding timetableAfter
-timetable-past s turns starts =
-    kept-past (timetableRefusal s turns (length starts) .number) (tasksOf s * turns) (startsOf s turns) starts (starts-length s turns)
-    (λ none. (timetable-given s turns (length starts)) .0 none .3)

@@ -19,14 +19,14 @@ use Rattle.schedule.specs.Schedule.{scheduleChecks, scheduleRefusal, acc
 use Rattle.schedule.specs.Theorems.{RefusedBefore, JudgedAfter}
 use Rattle.schedule.proofs.Fronts.{front, frontEdges, Fronts, fronts}
 
+pub refused-before : RefusedBefore
+unfolding acceptanceRefusal
+refused-before s some = stops (graphRefusal s) (scheduleRefusal (graphOf s) ∷ []) some
+
 -- a file that passes up to 8 is judged by 9 to 12
 pub judged-after : JudgedAfter
 unfolding acceptanceRefusal scheduleRefusal scheduleChecks
 judged-after s none = passes (graphRefusal s) (scheduleRefusal (graphOf s) ∷ []) none ∙ last-answer _
-
-pub refused-before : RefusedBefore
-unfolding acceptanceRefusal
-refused-before s some = stops (graphRefusal s) (scheduleRefusal (graphOf s) ∷ []) some
 
 module _ (s : List ℕ) {r : GraphReading} (read : r ≡ graphReading s) where
   refusal-is : r .refusal ≡ graphRefusal s
@@ -34,15 +34,6 @@ module _ (s : List ℕ) {r : GraphReading} (read : r ≡ graphReading s) where
 
   pub read-passed : r .refusal .number ≡ 0 → graphRefusal s .number ≡ 0
   read-passed none = number-same (sym refusal-is) ∙ none
-
-  pub not-read : r .refusal .number ≢ 0 → _≡_ {A = Acceptance} (record { refusal = r .refusal; latency = 0; reading = r }) (acceptance s)
-  unfolding acceptance
-  not-read some =
-      let refused : graphRefusal s .number ≢ 0 = λ none. some (number-same refusal-is ∙ none) in
-      let whole : r .refusal ≡ acceptanceRefusal s = refusal-is ∙ sym (refused-before s refused) in
-      let none-left : 0 ≡ ifPassed (acceptanceRefusal s .number) (latencyOf (graphOf s)) 0
-      = sym (if-refused (acceptanceRefusal s .number) (latencyOf (graphOf s)) 0 (λ none. some (number-same whole ∙ none))) in
-      λ i. record { refusal = whole i; latency = none-left i; reading = read i }
 
   pub judged :
       r .refusal .number ≡ 0 → {q : Refusal} {l : ℕ} →
@@ -60,3 +51,12 @@ module _ (s : List ℕ) {r : GraphReading} (read : r ≡ graphReading s) where
       let end : l ≡ ifPassed (acceptanceRefusal s .number) (latencyOf (graphOf s)) 0 =
       latest ∙ (λ i. ifPassed (whole i .number) (latency (f .as-many-times i) (f .held i) (f .times-are i) (f .output-is i)) 0) in
       λ i. record { refusal = whole i; latency = end i; reading = read i }
+
+  pub not-read : r .refusal .number ≢ 0 → _≡_ {A = Acceptance} (record { refusal = r .refusal; latency = 0; reading = r }) (acceptance s)
+  unfolding acceptance
+  not-read some =
+      let refused : graphRefusal s .number ≢ 0 = λ none. some (number-same refusal-is ∙ none) in
+      let whole : r .refusal ≡ acceptanceRefusal s = refusal-is ∙ sym (refused-before s refused) in
+      let none-left : 0 ≡ ifPassed (acceptanceRefusal s .number) (latencyOf (graphOf s)) 0
+      = sym (if-refused (acceptanceRefusal s .number) (latencyOf (graphOf s)) 0 (λ none. some (number-same whole ∙ none))) in
+      λ i. record { refusal = whole i; latency = none-left i; reading = read i }

@@ -108,7 +108,7 @@ check-schedule-requires c κs =
     let as-many : n ≡ count g = f .as-many-times in (
       (f .as-many-sinks, f .as-many-delays),
       (
-        (omega (arith, as-many, well .at-most-64), omega (arith, as-many, f .output-is, well .output-below)),
+        (omega (arith, as-many, well .at-most-64), omega (arith, as-many, f .input-is, well .input-below, f .output-is, well .output-below)),
         (
           subst (λ (es : List Edge). Fit n es) (sym (f .held)) (subst (λ (k : ℕ). Fit k (edges g)) (sym as-many) (graph-fit g well)),
           file-times g (front (r .tasks) (r .time)) well as-many (f .times-are),

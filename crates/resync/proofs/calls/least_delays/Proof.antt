@@ -100,7 +100,7 @@ least-table-requires c κs =
     let room = delays-room s is table checked (c .before .before .before .before .before .before .before .before .before .before .before .if1 .left) in
     let held = read-fronts s is (room .0) in
     let well = well-formed s is (room .0) in
-    ((held .as-many-sinks, held .as-many-delays), ((few-tasks s is, room .1), read-fit s is (room .0)))
+    ((held .as-many-sinks, held .as-many-delays), ((omega (arith, few-tasks s is), omega (arith, room .1)), read-fit s is (room .0)))
 
 told-requires-2 : tie.Need-told-requires-2
 told-requires-2 c κs = search needs

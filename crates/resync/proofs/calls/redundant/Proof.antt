@@ -155,7 +155,7 @@ part-redundant-marks-start-4 c = search needs
 part-redundant-marks-end-4 : tie.Need-part-redundant-marks-end-4
 part-redundant-marks-end-4 c =
     let reading = c .before .before .before .before .before .before .before .before .before .before .before .before .before .before .before .before .before .before .before .before .before .before .before .before .before .before .before .before .accept .result .reading in
-    table-room (reading .tasks) (frontEdges reading) _ (c .before .before .before .before .before .before .before .before .least-table .ensures)
+    omega (arith, table-room (reading .tasks) (frontEdges reading) _ (c .before .before .before .before .before .before .before .before .least-table .ensures))
 
 redundant-marks-requires : tie.Need-redundant-marks-requires
 redundant-marks-requires c κs =

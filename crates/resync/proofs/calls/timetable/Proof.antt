@@ -44,7 +44,7 @@ mul-with-room c =
     let start = c .before .before .before .before .before .before .before .before in
     let few = few-tasks (start .args .graph .now) (c .before .before .accept .ensures) in
     let known = turns-known (start .args .turns) (number-same (sym (c .before .before .before .before .before .check-turns .ensures)) ∙ c .before .before .before .if1 .left) in
-    record { fits = omega (arith, product-small _ _ few (known .1)) }
+    record { fits = omega (arith, product-small _ _ few few, product-small _ _ few (known .1)) }
 
 with-room-requires : tie.Need-with-room-requires
 with-room-requires c κs = search needs
@@ -172,7 +172,7 @@ turns-into-requires c κs =
     let same : edges g ≡ frontEdges reading = sym (held .held) in (
       (held .as-many-sinks, held .as-many-delays),
       (
-        (omega (arith, as-many, well .at-most-64), known .1, long),
+        (omega (arith, as-many, well .at-most-64), omega (arith, known .1), omega (arith, long)),
         (
           subst (λ (es : List Edge). Ends n es) same (subst (λ (k : ℕ). Ends k (edges g)) (sym as-many) (graph-fit g well .ends)),
           (
