@@ -49,9 +49,9 @@ lowered-still {first} {changed = changed} earlier step =
 -- ── One store ──
 
 -- v is what an edge from s of delay d allows: alone out of the row's task, or after the path that the entry of s stands for
-pub data Allows (from : ℕ) (row : List ℕ) (s d : ℕ) : ℕ → Type 0 where
-  alone : {v : ℕ} → s ≡ from → v ≡ d → Allows from row s d v
-  after : {v : ℕ} → (s ≡ from → ⊥) → v ≡ getD row s 0 + d → Allows from row s d v
+pub data AllowedBy (from : ℕ) (row : List ℕ) (s d : ℕ) : ℕ → Type 0 where
+  alone : {v : ℕ} → s ≡ from → v ≡ d → AllowedBy from row s d v
+  after : {v : ℕ} → (s ≡ from → ⊥) → v ≡ getD row s 0 + d → AllowedBy from row s d v
 
 -- what stands in a list after a store: the new number at its place, the old ones elsewhere
 set-cases : (xs : List ℕ) (t v b : ℕ) → t < length xs → ((b ≡ t) × (getD (set xs t v) b 0 ≡ v)) ⊎ (getD (set xs t v) b 0 ≡ getD xs b 0)
@@ -64,14 +64,14 @@ set-cases xs t v b l = go (cases (eqb b t))
     go (inr other) = inr (getD-set-other xs t b v 0 (λ q. T-not (eqb b t) other (eq→eqb q)))
 
 module _ {es : List Edge} {from : ℕ} {row : List ℕ} {s t d v : ℕ} where
-  allowed-path : edge s t d ∈ es → s < length row → Reached es from row → Allows from row s d v → v < 65535 → Path es from t v
+  allowed-path : edge s t d ∈ es → s < length row → Reached es from row → AllowedBy from row s d v → v < 65535 → Path es from t v
   allowed-path m l held (alone q is) few = path-ends q refl (path-delay (sym is) (path-edge m))
   allowed-path m l held (after q is) few =
       let below : getD row s 0 < 65535 = omega arith in
       path-delay (sym is) (path-append (held .paths s l below) (path-edge m))
 
   pub reached-set :
-      edge s t d ∈ es → s < length row → t < length row → Allows from row s d v → v < getD row t 0 → Reached es from row
+      edge s t d ∈ es → s < length row → t < length row → AllowedBy from row s d v → v < getD row t 0 → Reached es from row
       → Reached es from (set row t v)
   reached-set m present inside can smaller held =
       let few : v < 65535 = omega (arith, held .small t) in
@@ -93,6 +93,6 @@ module _ {es : List Edge} {from : ℕ} {row : List ℕ} {s t d v : ℕ} where
           path-delay (sym there) (held .paths b l below)
 
 -- where nothing below the sink's entry is allowed, the edge is settled
-pub allowed-settled : {from : ℕ} {row : List ℕ} {s t d v : ℕ} → Allows from row s d v → getD row t 0 ≤ v → Settled from row (edge s t d)
+pub allowed-settled : {from : ℕ} {row : List ℕ} {s t d v : ℕ} → AllowedBy from row s d v → getD row t 0 ≤ v → Settled from row (edge s t d)
 allowed-settled (alone q is) above = record { alone = λ p. omega arith; after = omega arith }
 allowed-settled (after q is) above = record { alone = λ p. absurd (q p); after = omega arith }

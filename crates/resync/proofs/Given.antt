@@ -15,13 +15,13 @@ use Rattle.model.proofs.Tests.{decides-yes, decides-no, decided, ltb-decides}
 use Rattle.files.specs.declared.Refusal.{Refusal}
 use Rattle.files.specs.Refusals.{refuse, first}
 use Rattle.files.specs.Files.{graphOf}
-use Rattle.files.proofs.First.{passes, stops, check-passes, check-stops, no-checks, number-same, zero-or-not, if-refused}
+use Rattle.files.proofs.First.{passes, stops, check-passes, check-stops, no-checks, number-same, zero-or-not, none-refused, if-refused}
 use Rattle.marks.specs.Marks.{marksOf, setBelow}
 use Rattle.schedule.specs.Schedule.{acceptanceRefusal}
 use Rattle.schedule.specs.Theorems.{Judged, zero-cycle, input-waits, not-joined, bound-below, passes as in-order}
 use Rattle.schedule.proofs.Judged.{accepted-iff-passed, refused-iff-judged}
 use Rattle.resync.specs.Calls.{outcome, roomRefusal, turnsRefusal, tasksOf, figuresOf, delaysRefusal, noMarks, redundantOf, timetableRefusal}
-use Rattle.resync.specs.Theorems.{AcceptedFile, FiguresGiven, RedundantGiven, DelaysGiven, TimetableGiven, DelaysShort, TimetableShort, TurnsOutside, DelaysRefused, TimetableRefused, ShortNoPlace, OutsideNoPlace, OutcomePlain, FiguresRefused, RedundantRefused}
+use Rattle.resync.specs.Theorems.{AcceptedFile, FiguresGiven, RedundantGiven, DelaysGiven, TimetableGiven, DelaysShort, TimetableShort, TurnsOutside, DelaysRefused, TimetableRefused, ShortNoPlace, OutsideNoPlace, OutcomePlain, SuccessPlain, FiguresRefused, RedundantRefused}
 
 -- ── Chains of checks ──
 
@@ -203,6 +203,10 @@ outside-no-place turns = no-place (ltb turns 1 || ltb 64 turns) 17
 pub outcome-plain : OutcomePlain
 unfolding outcome
 outcome-plain r = (refl, refl, refl, refl)
+
+pub success-plain : SuccessPlain
+unfolding acceptanceRefusal delaysRefusal timetableRefusal
+success-plain s turns room = (none-refused _, none-refused _, none-refused _)
 
 pub figures-refused : FiguresRefused
 unfolding figuresOf outcome

@@ -29,7 +29,7 @@ use Rattle.schedule.specs.Schedule.{acceptanceRefusal}
 use Rattle.schedule.proofs.Fronts.{graph-fit}
 use Rattle.schedule.proofs.Judged.{accepted-iff-passed}
 use Rattle.resync.specs.Calls.{tasksOf, figuresOf, noMarks, redundantOf}
-use Rattle.resync.specs.Theorems.{AcceptedFile, FiguresGiven, RedundantGiven, DelaysGiven, TimetableGiven, DelaysShort, TimetableShort, TurnsOutside, DelaysRefused, TimetableRefused, ShortNoPlace, OutsideNoPlace, OutcomePlain, FiguresRefused, RedundantRefused, DelaysKept, TimetableKept, DelaysPast, TimetablePast, FiguresMean, FiguresRun, DelaysMean, DelaysSmall, RedundantMean, RedundantCounted, RedundantListed, TimetableMean, TimetableRuns}
+use Rattle.resync.specs.Theorems.{AcceptedFile, FiguresGiven, RedundantGiven, DelaysGiven, TimetableGiven, DelaysShort, TimetableShort, TurnsOutside, DelaysRefused, TimetableRefused, ShortNoPlace, OutsideNoPlace, OutcomePlain, SuccessPlain, FiguresRefused, RedundantRefused, DelaysKept, TimetableKept, DelaysPast, TimetablePast, FiguresMean, FiguresRun, DelaysMean, DelaysSmall, RedundantMean, RedundantCounted, RedundantListed, TimetableMean, TimetableRuns}
 use Rattle.resync.proofs.Given
 use Rattle.resync.proofs.Written
 use Rattle.resync.proofs.Written.{delay-at, starts-at}
@@ -71,6 +71,9 @@ outside-no-place = Given.outside-no-place
 
 pub outcome-plain : OutcomePlain
 outcome-plain = Given.outcome-plain
+
+pub success-plain : SuccessPlain
+success-plain = Given.success-plain
 
 pub figures-refused : FiguresRefused
 figures-refused = Given.figures-refused

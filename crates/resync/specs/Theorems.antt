@@ -12,6 +12,7 @@ use Rattle.model.specs.Runs.{Times, ends, Earliest, estimates}
 use Rattle.model.specs.Proposals.{AcceptedGraph}
 use Rattle.model.specs.Theorems.{Decides}
 use Rattle.files.specs.declared.Refusal.{Refusal}
+use Rattle.files.specs.Refusals.{notRefused}
 use Rattle.files.specs.Files.{graphOf, graphRefusal}
 use Rattle.marks.specs.Marks.{markAt, setBelow, placesBelow}
 use Rattle.delays.specs.Delays.{entry}
@@ -71,6 +72,14 @@ OutsideNoPlace = (turns : ℕ) → turnsRefusal turns .place ≡ 0
 -- No outcome of these calls has a latency or a margin.
 abbrev pub OutcomePlain : Type 0
 OutcomePlain = (r : Refusal) → (outcome r .number ≡ r .number) × (outcome r .place ≡ r .place) × (outcome r .latency ≡ 0) × (outcome r .margin ≡ pos 0)
+
+-- Where nothing is refused the outcome is 0 in all four numbers.
+abbrev pub SuccessPlain : Type 0
+SuccessPlain =
+    (s : List ℕ) (turns room : ℕ) →
+    (acceptanceRefusal s .number ≡ 0 → acceptanceRefusal s ≡ notRefused) ×
+    (delaysRefusal s room .number ≡ 0 → delaysRefusal s room ≡ notRefused) ×
+    (timetableRefusal s turns room .number ≡ 0 → timetableRefusal s turns room ≡ notRefused)
 
 -- A refused graph has no figures and no marks.
 abbrev pub FiguresRefused : Type 0

@@ -17,7 +17,7 @@ use Rattle.model.proofs.Earliest.{earliest-keeps, run-acyclic}
 use Rattle.model.proofs.Theorems.{zero-cycle-is}
 use Rattle.waits.specs.Waits.{Settles}
 use Rattle.starts.proofs.Limits.{ends-by}
-use Rattle.starts.proofs.Raised.{Settled}
+use Rattle.starts.proofs.Raised.{SettleEnsured}
 
 pub acyclic : {n : ℕ} {es : List Edge} → Ends n es → zeroCycle n es ≡ false → NoZeroCycle es
 acyclic {n} {es} bounds none = (zero-cycle-is n es bounds) .if-false (subst (λ (b : Bool). T (not b)) (sym none) tt)
@@ -68,12 +68,12 @@ module _ {n : ℕ} {es : List Edge} (bounds : Ends n es) {time given : ℕ → �
       go (inr t) = absurd (fails t)
 
   pub cycle-test :
-      {m limit : ℕ} {row : ℕ → ℕ} {r : Bool} → Settled m es time given limit row r → m ≡ n → ((v : ℕ) → v < n → given v ≡ 0) → n ≤ limit →
+      {m limit : ℕ} {row : ℕ → ℕ} {r : Bool} → SettleEnsured m es time given limit row r → m ≡ n → ((v : ℕ) → v < n → given v ≡ 0) → n ≤ limit →
       not r ≡ zeroCycle n es
   cycle-test {limit = limit} {row = row} {r = r} settle same zero-given fits = go r refl
     where
-      settled : Settled n es time given limit row r
-      settled = subst (λ (m : ℕ). Settled m es time given limit row r) same settle
+      settled : SettleEnsured n es time given limit row r
+      settled = subst (λ (m : ℕ). SettleEnsured m es time given limit row r) same settle
 
       go : (b : Bool) → r ≡ b → not r ≡ zeroCycle n es
       go true q = ap not q ∙ sym (settled-acyclic (settled .0 q))

@@ -22,25 +22,25 @@ use Rattle.records.proofs.Parts.{zeros-length, each-is}
 use Rattle.waits.specs.Waits.{Settles, Awaits}
 use Rattle.starts.specs.Starts.{turnRow, FileTimes, EndedBefore}
 use Rattle.starts.proofs.Limits.{turn-fits}
-use Rattle.starts.proofs.Raised.{Waited, Settled}
+use Rattle.starts.proofs.Raised.{WaitEnsured, SettleEnsured}
 use Rattle.starts.proofs.Cycles.{acyclic, turn-settles}
 
-choose : Bool → ℕ → ℕ → ℕ
-choose true a b = a
-choose false a b = b
+oneOf : Bool → ℕ → ℕ → ℕ
+oneOf true a b = a
+oneOf false a b = b
 
 -- starts with those of turn k exchanged
 exchanged : Times → ℕ → (ℕ → ℕ) → Times
-exchanged start k row v j = choose (eqb j k) (row v) (start v j)
+exchanged start k row v j = oneOf (eqb j k) (row v) (start v j)
 
 exchanged-at : (start : Times) (k : ℕ) (row : ℕ → ℕ) (v : ℕ) → exchanged start k row v k ≡ row v
-unfolding exchanged choose
-exchanged-at start k row v = ap (λ (b : Bool). choose b (row v) (start v k)) (is-true (eqb k k) (eqb-refl k))
+unfolding exchanged oneOf
+exchanged-at start k row v = ap (λ (b : Bool). oneOf b (row v) (start v k)) (is-true (eqb k k) (eqb-refl k))
 
 exchanged-before : (start : Times) (k : ℕ) (row : ℕ → ℕ) (v j : ℕ) → j < k → exchanged start k row v j ≡ start v j
-unfolding exchanged choose
+unfolding exchanged oneOf
 exchanged-before start k row v j l =
-    ap (λ (b : Bool). choose b (row v) (start v j))
+    ap (λ (b : Bool). oneOf b (row v) (start v j))
     (is-false (eqb j k) (not-T (eqb j k) (λ t. let same = eqb→eq j k t in absurd (omega arith))))
 
 module _
@@ -149,13 +149,13 @@ module _ {n : ℕ} {es : List Edge} {time : List ℕ} (ready : Ready n es time) 
 
   module _
       {ended : List ℕ} (before : EndedBefore n es (at time) k ended) {cleared : List ℕ} (waited : List ℕ) (blank : cleared ≡ zeros n)
-      (wait : Waited (length cleared) es ended k (at cleared) (at waited))
+      (wait : WaitEnsured (length cleared) es ended k (at cleared) (at waited))
     where
       blank-length : length cleared ≡ n
       blank-length = ap length blank ∙ zeros-length n
 
-      waited-row : Waited n es ended k (at cleared) (at waited)
-      waited-row = subst (λ (m : ℕ). Waited m es ended k (at cleared) (at waited)) blank-length wait
+      waited-row : WaitEnsured n es ended k (at cleared) (at waited)
+      waited-row = subst (λ (m : ℕ). WaitEnsured m es ended k (at cleared) (at waited)) blank-length wait
 
       waited-low : (v : ℕ) → v < n → at waited v ≤ earliest n es (estimates (at time)) v k
       waited-low =
@@ -166,7 +166,7 @@ module _ {n : ℕ} {es : List Edge} {time : List ℕ} (ready : Ready n es time) 
       waited-fits v l = let low = waited-low v l in let end = end-fits v l in omega arith
 
       pub turn-row :
-          {row : List ℕ} {r : Bool} → Settled (length waited) es (at time) (at waited) 1073741824 (at row) r → length waited ≡ length cleared →
+          {row : List ℕ} {r : Bool} → SettleEnsured (length waited) es (at time) (at waited) 1073741824 (at row) r → length waited ≡ length cleared →
           length row ≡ length waited → row ≡ turnRow n es (at time) k
       unfolding turnRow at
       turn-row {row} {r} settle same same-again = go r refl
@@ -174,8 +174,8 @@ module _ {n : ℕ} {es : List Edge} {time : List ℕ} (ready : Ready n es time) 
           waited-length : length waited ≡ n
           waited-length = same ∙ blank-length
 
-          settled : Settled n es (at time) (at waited) 1073741824 (at row) r
-          settled = subst (λ (m : ℕ). Settled m es (at time) (at waited) 1073741824 (at row) r) waited-length settle
+          settled : SettleEnsured n es (at time) (at waited) 1073741824 (at row) r
+          settled = subst (λ (m : ℕ). SettleEnsured m es (at time) (at waited) 1073741824 (at row) r) waited-length settle
 
           go : (b : Bool) → r ≡ b → row ≡ tabulate n (λ v. earliest n es (estimates (at time)) v k)
           go true q =

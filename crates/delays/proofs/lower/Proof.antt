@@ -6,14 +6,14 @@ use mathlib.Core.Bool.{true≢false}
 use Prim.Native.Nat.{ℕ, _+_}
 use native.Mathlib.Omega.{arith}
 use borrow.Author.Needs.{needs}
-use Rattle.delays.proofs.Steps.{Allows, alone, after, reached-set, allowed-settled, lowered-not, lowered-set}
+use Rattle.delays.proofs.Steps.{AllowedBy, alone, after, reached-set, allowed-settled, lowered-not, lowered-set}
 use Rattle.delays.proofs.lower.Statement.{statement}
 use Rattle.delays.proofs.lower.Tie as tie
 
 -- what the sum stands for, by whether the edge leads out of the row's task
 allowed :
     (c : tie.Joined1) →
-    Allows (c .before .args .from) (c .before .args .row .now) (c .before .args .source) (c .before .args .delay) (c .if1 .before + c .before .args .delay)
+    AllowedBy (c .before .args .from) (c .before .args .row .now) (c .before .args .source) (c .before .args .delay) (c .if1 .before + c .before .args .delay)
 allowed c =
     let d = c .before .args .delay in
     ⊎-elim (λ w. after (w .0 .taken) (ap (λ (x : ℕ). x + d) (w .2))) (λ w. alone (w .0 .left) (omega (arith, w .1))) (c .if1 .came)
