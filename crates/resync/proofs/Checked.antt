@@ -27,7 +27,7 @@ use Rattle.readings.proofs.Held.{graph-given}
 use Rattle.readings.proofs.Accepted.{graph-formed}
 use Rattle.schedule.specs.declared.Acceptance.{Acceptance}
 use Rattle.schedule.specs.Schedule.{acceptanceRefusal, acceptance}
-use Rattle.schedule.proofs.Fronts.{Fronts, fronts, frontEdges, graph-fit}
+use Rattle.schedule.proofs.Fronts.{Fronts, fronts, frontEdges, graph-fit, Within, fronts-within}
 use Rattle.schedule.proofs.Judged.{accepted-iff-passed}
 use Rattle.resync.specs.Calls.{roomRefusal, turnsRefusal}
 
@@ -142,3 +142,6 @@ module _ (s : List ℕ) {r : Acceptance} (is : r ≡ acceptance s) where
     read-fit =
         subst (λ (n : ℕ). Fit n (frontEdges (r .reading))) (sym (read-fronts .tasks-are))
         (subst (λ (es : List Edge). Fit (count (graphOf s)) es) (sym (read-fronts .held)) (graph-fit (graphOf s) well-formed))
+
+    pub lists-within : Within (r .reading)
+    lists-within = fronts-within read-fronts well-formed

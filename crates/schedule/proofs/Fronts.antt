@@ -117,9 +117,20 @@ file-times g time formed as-many same =
     λ v below.
     subst (λ (t : ℕ → ℕ). (1 ≤ t v) × (t v ≤ 65535)) (sym same) (formed .times v (subst (λ (k : ℕ). v < k) as-many below))
 
--- Fronts are within the lists.
-pub edges-within : {g : Graph} {r : GraphReading} → Fronts g r → WellFormed g → r .tasks + r .edges ≤ 320
-edges-within f formed = omega (arith, f .tasks-are, f .edges-are, formed .at-most-64, formed .syncs-formed .few)
+-- The fronts are within the lists.
+pub record Within (r : GraphReading) : Type 0 where
+  pub source : r .tasks + r .edges ≤ length (r .source)
+  pub sink : r .tasks + r .edges ≤ length (r .sink)
+  pub delay : r .tasks + r .edges ≤ length (r .delay)
+  pub time : r .tasks ≤ length (r .time)
 
-pub tasks-within : {g : Graph} {r : GraphReading} → Fronts g r → WellFormed g → r .tasks ≤ 64
-tasks-within f formed = omega (arith, f .tasks-are, formed .at-most-64)
+pub fronts-within : {g : Graph} {r : GraphReading} → Fronts g r → WellFormed g → Within r
+fronts-within {g} {r} f formed =
+    let few : r .tasks ≤ 64 = omega (arith, f .tasks-are, formed .at-most-64) in
+    let some : r .tasks + r .edges ≤ 320 = omega (arith, few, f .edges-are, formed .syncs-formed .few) in
+    record {
+      source = omega (arith, f .source-room, some);
+      sink = omega (arith, f .sink-room, some);
+      delay = omega (arith, f .delay-room, some);
+      time = omega (arith, f .time-room, few);
+    }

@@ -8,8 +8,8 @@ use Rattle.model.specs.Tasks.{Edge}
 use Rattle.model.specs.Graph.{count, edges}
 use Rattle.delays.specs.Delays.{Fit}
 use Rattle.files.specs.Files.{graphOf}
-use Rattle.schedule.proofs.Fronts.{front, fronts, formed, graph-fit, file-times, edges-within, tasks-within}
-use Rattle.schedule.proofs.Accepting.{read-passed, not-read, judged}
+use Rattle.schedule.proofs.Fronts.{front, fronts, formed, graph-fit, file-times}
+use Rattle.schedule.proofs.Accepting.{read-passed, lists-within, not-read, judged}
 use borrow.Author.Needs.{needs}
 use Rattle.schedule.proofs.accept.Statement.{statement}
 use Rattle.schedule.proofs.accept.Tie as tie
@@ -37,12 +37,7 @@ part-check-schedule-start c = search needs
 
 part-check-schedule-end : tie.Need-part-check-schedule-end
 part-check-schedule-end c =
-    let s = c .before .before .before .before .before .before .before .before .before .before .before .before .args .graph .now in
-    let read = c .before .before .before .before .before .before .before .before .before .before .read-graph .ensures in
-    let passed = read-passed s read (c .before .before .before .before .before .before .before .if1 .left) in
-    let f = fronts s read passed in
-    let well = formed s read passed in
-    omega (arith, f .source-room, edges-within f well)
+    lists-within (c .before .before .before .before .before .before .before .before .before .before .before .before .args .graph .now) (c .before .before .before .before .before .before .before .before .before .before .read-graph .ensures) (c .before .before .before .before .before .before .before .if1 .left) .source
 
 sub-check-schedule-2 : tie.Need-sub-check-schedule-2
 sub-check-schedule-2 c = search needs
@@ -52,12 +47,7 @@ part-check-schedule-start-2 c = search needs
 
 part-check-schedule-end-2 : tie.Need-part-check-schedule-end-2
 part-check-schedule-end-2 c =
-    let s = c .before .before .before .before .before .before .before .before .before .before .before .before .before .before .args .graph .now in
-    let read = c .before .before .before .before .before .before .before .before .before .before .before .before .read-graph .ensures in
-    let passed = read-passed s read (c .before .before .before .before .before .before .before .before .before .if1 .left) in
-    let f = fronts s read passed in
-    let well = formed s read passed in
-    omega (arith, f .sink-room, edges-within f well)
+    lists-within (c .before .before .before .before .before .before .before .before .before .before .before .before .before .before .args .graph .now) (c .before .before .before .before .before .before .before .before .before .before .before .before .read-graph .ensures) (c .before .before .before .before .before .before .before .before .before .if1 .left) .sink
 
 sub-check-schedule-3 : tie.Need-sub-check-schedule-3
 sub-check-schedule-3 c = search needs
@@ -67,12 +57,7 @@ part-check-schedule-start-3 c = search needs
 
 part-check-schedule-end-3 : tie.Need-part-check-schedule-end-3
 part-check-schedule-end-3 c =
-    let s = c .before .before .before .before .before .before .before .before .before .before .before .before .before .before .before .before .args .graph .now in
-    let read = c .before .before .before .before .before .before .before .before .before .before .before .before .before .before .read-graph .ensures in
-    let passed = read-passed s read (c .before .before .before .before .before .before .before .before .before .before .before .if1 .left) in
-    let f = fronts s read passed in
-    let well = formed s read passed in
-    omega (arith, f .delay-room, edges-within f well)
+    lists-within (c .before .before .before .before .before .before .before .before .before .before .before .before .before .before .before .before .args .graph .now) (c .before .before .before .before .before .before .before .before .before .before .before .before .before .before .read-graph .ensures) (c .before .before .before .before .before .before .before .before .before .before .before .if1 .left) .delay
 
 sub-check-schedule-4 : tie.Need-sub-check-schedule-4
 sub-check-schedule-4 c = search needs
@@ -82,12 +67,7 @@ part-check-schedule-start-4 c = search needs
 
 part-check-schedule-end-4 : tie.Need-part-check-schedule-end-4
 part-check-schedule-end-4 c =
-    let s = c .before .before .before .before .before .before .before .before .before .before .before .before .before .before .before .before .before .before .args .graph .now in
-    let read = c .before .before .before .before .before .before .before .before .before .before .before .before .before .before .before .before .read-graph .ensures in
-    let passed = read-passed s read (c .before .before .before .before .before .before .before .before .before .before .before .before .before .if1 .left) in
-    let f = fronts s read passed in
-    let well = formed s read passed in
-    omega (arith, f .time-room, tasks-within f well)
+    lists-within (c .before .before .before .before .before .before .before .before .before .before .before .before .before .before .before .before .before .before .args .graph .now) (c .before .before .before .before .before .before .before .before .before .before .before .before .before .before .before .before .read-graph .ensures) (c .before .before .before .before .before .before .before .before .before .before .before .before .before .if1 .left) .time
 
 cast-check-schedule : tie.Need-cast-check-schedule
 cast-check-schedule c = search needs

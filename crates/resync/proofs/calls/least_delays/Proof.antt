@@ -1,9 +1,8 @@
 -- `resync::calls::least_delays` meets its contract: refused, it keeps the list; else the fronts of the lists that were read hold the graph, and their
 -- table is the graph's.
 use native.Mathlib.Omega.{arith}
-use Rattle.schedule.proofs.Fronts.{edges-within}
 use Rattle.records.proofs.Rows.{product-small}
-use Rattle.resync.proofs.Checked.{few-tasks, well-formed, read-fronts, read-fit}
+use Rattle.resync.proofs.Checked.{lists-within, few-tasks, well-formed, read-fronts, read-fit}
 use Rattle.resync.proofs.Results.{delays-told, delays-room, delays-kept, delays-written}
 use borrow.Author.Needs.{needs}
 use Rattle.resync.proofs.calls.least_delays.Statement.{statement}
@@ -53,9 +52,7 @@ part-least-table-end c =
     let is = c .before .before .before .before .before .before .before .before .before .before .accept .ensures in
     let checked = c .before .before .before .before .before .before .before .with-room .ensures in
     let room = delays-room s is table checked (c .before .before .before .before .before .if1 .left) in
-    let held = read-fronts s is (room .0) in
-    let well = well-formed s is (room .0) in
-    omega (arith, held .source-room, edges-within held well)
+    lists-within s is (room .0) .source
 
 sub-least-table-2 : tie.Need-sub-least-table-2
 sub-least-table-2 c = search needs
@@ -70,9 +67,7 @@ part-least-table-end-2 c =
     let is = c .before .before .before .before .before .before .before .before .before .before .before .before .accept .ensures in
     let checked = c .before .before .before .before .before .before .before .before .before .with-room .ensures in
     let room = delays-room s is table checked (c .before .before .before .before .before .before .before .if1 .left) in
-    let held = read-fronts s is (room .0) in
-    let well = well-formed s is (room .0) in
-    omega (arith, held .sink-room, edges-within held well)
+    lists-within s is (room .0) .sink
 
 sub-least-table-3 : tie.Need-sub-least-table-3
 sub-least-table-3 c = search needs
@@ -87,9 +82,7 @@ part-least-table-end-3 c =
     let is = c .before .before .before .before .before .before .before .before .before .before .before .before .before .before .accept .ensures in
     let checked = c .before .before .before .before .before .before .before .before .before .before .before .with-room .ensures in
     let room = delays-room s is table checked (c .before .before .before .before .before .before .before .before .before .if1 .left) in
-    let held = read-fronts s is (room .0) in
-    let well = well-formed s is (room .0) in
-    omega (arith, held .delay-room, edges-within held well)
+    lists-within s is (room .0) .delay
 
 least-table-requires : tie.Need-least-table-requires
 least-table-requires c κs =

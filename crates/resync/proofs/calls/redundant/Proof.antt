@@ -4,9 +4,9 @@ use mathlib.Core.Path.{sym}
 use native.Mathlib.Omega.{arith}
 use Rattle.files.specs.Files.{graphOf}
 use Rattle.redundancy.specs.Redundancy.{HeldGraph}
-use Rattle.schedule.proofs.Fronts.{frontEdges, edges-within}
+use Rattle.schedule.proofs.Fronts.{frontEdges}
 use Rattle.records.proofs.Rows.{product-small}
-use Rattle.resync.proofs.Checked.{few-tasks, well-formed, accepted, read-fronts, read-fit}
+use Rattle.resync.proofs.Checked.{lists-within, few-tasks, well-formed, accepted, read-fronts, read-fit}
 use Rattle.resync.proofs.Results.{redundant-refused, redundant-read, table-front, table-room}
 use borrow.Author.Needs.{needs}
 use Rattle.resync.proofs.calls.redundant.Statement.{statement}
@@ -49,9 +49,7 @@ part-least-table-end c =
     let s = c .before .before .before .before .before .before .before .before .before .before .before .before .before .before .before .args .graph .now in
     let is = c .before .before .before .before .before .before .before .before .before .before .before .before .before .accept .ensures in
     let none = c .before .before .before .before .before .before .before .before .before .if1 .left in
-    let held = read-fronts s is none in
-    let well = well-formed s is none in
-    omega (arith, held .source-room, edges-within held well)
+    lists-within s is none .source
 
 sub-least-table-2 : tie.Need-sub-least-table-2
 sub-least-table-2 c = search needs
@@ -64,9 +62,7 @@ part-least-table-end-2 c =
     let s = c .before .before .before .before .before .before .before .before .before .before .before .before .before .before .before .before .before .args .graph .now in
     let is = c .before .before .before .before .before .before .before .before .before .before .before .before .before .before .before .accept .ensures in
     let none = c .before .before .before .before .before .before .before .before .before .before .before .if1 .left in
-    let held = read-fronts s is none in
-    let well = well-formed s is none in
-    omega (arith, held .sink-room, edges-within held well)
+    lists-within s is none .sink
 
 sub-least-table-3 : tie.Need-sub-least-table-3
 sub-least-table-3 c = search needs
@@ -79,9 +75,7 @@ part-least-table-end-3 c =
     let s = c .before .before .before .before .before .before .before .before .before .before .before .before .before .before .before .before .before .before .before .args .graph .now in
     let is = c .before .before .before .before .before .before .before .before .before .before .before .before .before .before .before .before .before .accept .ensures in
     let none = c .before .before .before .before .before .before .before .before .before .before .before .before .before .if1 .left in
-    let held = read-fronts s is none in
-    let well = well-formed s is none in
-    omega (arith, held .delay-room, edges-within held well)
+    lists-within s is none .delay
 
 slice-aggregate-least-table : tie.Need-slice-aggregate-least-table
 slice-aggregate-least-table c = search needs
@@ -107,9 +101,7 @@ part-redundant-marks-end c =
     let s = c .before .before .before .before .before .before .before .before .before .before .before .before .before .before .before .before .before .before .before .before .before .before .before .before .args .graph .now in
     let is = c .before .before .before .before .before .before .before .before .before .before .before .before .before .before .before .before .before .before .before .before .before .before .accept .ensures in
     let none = c .before .before .before .before .before .before .before .before .before .before .before .before .before .before .before .before .before .before .if1 .left in
-    let held = read-fronts s is none in
-    let well = well-formed s is none in
-    omega (arith, held .source-room, edges-within held well)
+    lists-within s is none .source
 
 sub-redundant-marks-2 : tie.Need-sub-redundant-marks-2
 sub-redundant-marks-2 c = search needs
@@ -122,9 +114,7 @@ part-redundant-marks-end-2 c =
     let s = c .before .before .before .before .before .before .before .before .before .before .before .before .before .before .before .before .before .before .before .before .before .before .before .before .before .before .args .graph .now in
     let is = c .before .before .before .before .before .before .before .before .before .before .before .before .before .before .before .before .before .before .before .before .before .before .before .before .accept .ensures in
     let none = c .before .before .before .before .before .before .before .before .before .before .before .before .before .before .before .before .before .before .before .before .if1 .left in
-    let held = read-fronts s is none in
-    let well = well-formed s is none in
-    omega (arith, held .sink-room, edges-within held well)
+    lists-within s is none .sink
 
 sub-redundant-marks-3 : tie.Need-sub-redundant-marks-3
 sub-redundant-marks-3 c = search needs
@@ -137,9 +127,7 @@ part-redundant-marks-end-3 c =
     let s = c .before .before .before .before .before .before .before .before .before .before .before .before .before .before .before .before .before .before .before .before .before .before .before .before .before .before .before .before .args .graph .now in
     let is = c .before .before .before .before .before .before .before .before .before .before .before .before .before .before .before .before .before .before .before .before .before .before .before .before .before .before .accept .ensures in
     let none = c .before .before .before .before .before .before .before .before .before .before .before .before .before .before .before .before .before .before .before .before .before .before .if1 .left in
-    let held = read-fronts s is none in
-    let well = well-formed s is none in
-    omega (arith, held .delay-room, edges-within held well)
+    lists-within s is none .delay
 
 mul-redundant-marks : tie.Need-mul-redundant-marks
 mul-redundant-marks c =

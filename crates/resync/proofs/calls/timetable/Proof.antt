@@ -10,9 +10,9 @@ use Rattle.model.specs.Graph.{count, edges}
 use Rattle.model.specs.Compute.{zeroCycle}
 use Rattle.files.specs.Files.{graphOf}
 use Rattle.files.proofs.First.{number-same}
-use Rattle.schedule.proofs.Fronts.{front, frontEdges, graph-fit, file-times, edges-within, tasks-within}
+use Rattle.schedule.proofs.Fronts.{front, frontEdges, graph-fit, file-times}
 use Rattle.records.proofs.Rows.{product-small}
-use Rattle.resync.proofs.Checked.{few-tasks, well-formed, read-fronts, acyclic, turns-known}
+use Rattle.resync.proofs.Checked.{lists-within, few-tasks, well-formed, read-fronts, acyclic, turns-known}
 use Rattle.resync.proofs.Results.{turns-told, turns-kept, timetable-told, timetable-room, timetable-kept, timetable-written}
 use borrow.Author.Needs.{needs}
 use Rattle.resync.proofs.calls.timetable.Statement.{statement}
@@ -87,9 +87,7 @@ part-turns-into-end c =
     let is = c .before .before .before .before .before .before .before .before .before .before .before .accept .ensures in
     let checked = c .before .before .before .before .before .before .before .before .with-room .ensures in
     let room = timetable-room s is turns starts inside go-on checked (c .before .before .before .before .before .before .if2 .left) in
-    let held = read-fronts s is (room .0) in
-    let well = well-formed s is (room .0) in
-    omega (arith, held .source-room, edges-within held well)
+    lists-within s is (room .0) .source
 
 sub-turns-into-2 : tie.Need-sub-turns-into-2
 sub-turns-into-2 c = search needs
@@ -107,9 +105,7 @@ part-turns-into-end-2 c =
     let is = c .before .before .before .before .before .before .before .before .before .before .before .before .before .accept .ensures in
     let checked = c .before .before .before .before .before .before .before .before .before .before .with-room .ensures in
     let room = timetable-room s is turns starts inside go-on checked (c .before .before .before .before .before .before .before .before .if2 .left) in
-    let held = read-fronts s is (room .0) in
-    let well = well-formed s is (room .0) in
-    omega (arith, held .sink-room, edges-within held well)
+    lists-within s is (room .0) .sink
 
 sub-turns-into-3 : tie.Need-sub-turns-into-3
 sub-turns-into-3 c = search needs
@@ -127,9 +123,7 @@ part-turns-into-end-3 c =
     let is = c .before .before .before .before .before .before .before .before .before .before .before .before .before .before .before .accept .ensures in
     let checked = c .before .before .before .before .before .before .before .before .before .before .before .before .with-room .ensures in
     let room = timetable-room s is turns starts inside go-on checked (c .before .before .before .before .before .before .before .before .before .before .if2 .left) in
-    let held = read-fronts s is (room .0) in
-    let well = well-formed s is (room .0) in
-    omega (arith, held .delay-room, edges-within held well)
+    lists-within s is (room .0) .delay
 
 sub-turns-into-4 : tie.Need-sub-turns-into-4
 sub-turns-into-4 c = search needs
@@ -147,9 +141,7 @@ part-turns-into-end-4 c =
     let is = c .before .before .before .before .before .before .before .before .before .before .before .before .before .before .before .before .before .accept .ensures in
     let checked = c .before .before .before .before .before .before .before .before .before .before .before .before .before .before .with-room .ensures in
     let room = timetable-room s is turns starts inside go-on checked (c .before .before .before .before .before .before .before .before .before .before .before .before .if2 .left) in
-    let held = read-fronts s is (room .0) in
-    let well = well-formed s is (room .0) in
-    omega (arith, held .time-room, tasks-within held well)
+    lists-within s is (room .0) .time
 
 turns-into-requires : tie.Need-turns-into-requires
 turns-into-requires c κs =
