@@ -8,7 +8,7 @@ use lib.Dec.{lit≤}
 use Rattle.model.specs.Lists.{tabulate}
 use Rattle.files.specs.declared.Refusal.{Refusal}
 use Rattle.files.specs.Refusals.{refuse, first}
-use Rattle.files.specs.Files.{firstOf, graphHeaderRefusal, lengthRefusal, fillingRefusal, headerEndsRefusal, graphFrameRefusal, timeRefusal, endsRefusal, edgeRefusal, repeatRefusal, graphRecordsRefusal, graphRefusal}
+use Rattle.files.specs.Files.{firstOf, graphHeaderRefusal, lengthRefusal, fillingRefusal, headerEndsRefusal, graphFrameRefusal, timeRefusal, endsRefusal, edgeRefusal, repeatRefusal, graphRecordsRefusal, graphRefusal, proposalHeaderRefusal, zerosRefusal, proposalFrameRefusal, proposedEdgesRefusal, proposalRefusal}
 use Rattle.files.proofs.First.{passes, stops, no-checks, number-same, zero-or-not, passed-all, stopped-before}
 
 module _ (limit : ℕ) where
@@ -49,4 +49,15 @@ graph-numbers s =
     (either 8 _ _ (each 8 _ _ (λ i. one 8 _ 5 _ (lit≤ tt)))
     (either 8 _ _ (each 8 _ _ (λ i. either 8 _ _ (one 8 _ 6 _ (lit≤ tt)) (either 8 _ _ (one 8 _ 7 _ (lit≤ tt)) (none-above 8))))
     (either 8 _ _ (each 8 _ _ (λ i. one 8 _ 8 _ (lit≤ tt))) (none-above 8))))
+    (none-above 8))
+
+pub proposal-numbers : (n : ℕ) (s : List ℕ) → proposalRefusal n s .number ≤ 8
+unfolding proposalRefusal proposalFrameRefusal proposalHeaderRefusal lengthRefusal zerosRefusal fillingRefusal proposedEdgesRefusal endsRefusal repeatRefusal
+proposal-numbers n s =
+    either 8 _ _
+    (either 8 _ _ (either 8 _ _ (one 8 _ 1 0 (lit≤ tt)) (either 8 _ _ (one 8 _ 2 0 (lit≤ tt)) (either 8 _ _ (one 8 _ 3 0 (lit≤ tt)) (none-above 8))))
+    (either 8 _ _ (either 8 _ _ (one 8 _ 1 0 (lit≤ tt)) (either 8 _ _ (one 8 _ 4 0 (lit≤ tt)) (none-above 8)))
+    (either 8 _ _ (one 8 _ 4 0 (lit≤ tt)) (either 8 _ _ (one 8 _ 4 0 (lit≤ tt)) (none-above 8)))))
+    (either 8 _ _
+    (either 8 _ _ (each 8 _ _ (λ i. one 8 _ 6 _ (lit≤ tt))) (either 8 _ _ (each 8 _ _ (λ i. one 8 _ 8 _ (lit≤ tt))) (none-above 8)))
     (none-above 8))

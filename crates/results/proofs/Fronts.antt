@@ -1,0 +1,105 @@
+-- Edges stored one behind the other: one entry more in each of three lists is one edge more. So the first entries of the lists hold the edges stored.
+use mathlib.Core.Path.{_≡_, refl, sym, ap, _∙_, subst}
+use mathlib.Core.Logic.{_⊎_, inl, inr}
+use mathlib.Core.List.{List, [], _∷_, _++_}
+use Prim.Native.Nat.{ℕ, suc, _+_, _≤_, _<_}
+use native.Mathlib.Nat.{not-suc-le-zero}
+use native.Mathlib.Numerals.{add-one}
+use native.Mathlib.Omega.{arith}
+use lib.ListN.{length, getD, take, set, length-set, length-append, List·getD-append}
+use lib.Seq.{take-suc-set, getD-at}
+use Rattle.model.specs.Lists.{tabulate}
+use Rattle.model.specs.Tasks.{Edge, noEdge}
+use Rattle.model.proofs.Basics.{below-suc}
+use Rattle.records.specs.Columns.{Column}
+use Rattle.records.proofs.Edges.{edges-of-columns}
+use Rattle.results.specs.declared.ResultEdges.{ResultEdges}
+use Rattle.results.specs.Results.{HeldResult}
+use Rattle.results.specs.Fronts.{Front, HeldFront}
+
+column-more :
+    {A : Type 0} {missing : A} {part : A → ℕ} {rows : List A} {column : List ℕ} (row : A) → Column missing part rows column
+    → Column missing part (rows ++ (row ∷ [])) (column ++ (part row ∷ []))
+column-more {A} {missing} {part} {rows} {column} row held = record {
+  as-many =
+      length-append column (part row ∷ []) ∙ (ap (λ (n : ℕ). n + 1) (held .as-many) ∙ sym (length-append rows (row ∷ [])));
+  same = λ i l.
+      let more : length (rows ++ (row ∷ [])) ≡ length rows + 1 = length-append rows (row ∷ []) in
+      let inside : i < suc (length rows) = omega arith in
+      go i (below-suc inside);
+}
+  where
+    go : (i : ℕ) → (i < length rows) ⊎ (i ≡ length rows) → getD (column ++ (part row ∷ [])) i 0 ≡ part (getD (rows ++ (row ∷ [])) i missing)
+    go i (inl l) =
+        List·getD-append column (part row ∷ []) 0 i (subst (λ (n : ℕ). i < n) (sym (held .as-many)) l) ∙
+        (held .same i l ∙ ap part (sym (List·getD-append rows (row ∷ []) missing i l)))
+    go i (inr e) =
+        getD-at column (part row) [] 0 i (held .as-many ∙ sym e) ∙ ap part (sym (getD-at rows row [] missing i (sym e)))
+
+front-more :
+    {part : Edge → ℕ} {es : List Edge} {count : ℕ} {list : List ℕ} (e : Edge) → Front part es count list → count < 576
+    → Front part (es ++ (e ∷ [])) (count + 1) (set list count (part e))
+front-more {part} {es} {count} {list} e front below = record {
+  as-many = ap (λ (n : ℕ). n + 1) (front .as-many) ∙ sym (length-append es (e ∷ []));
+  room = length-set list count (part e) ∙ front .room;
+  column =
+      subst (λ (xs : List ℕ). Column noEdge part (es ++ (e ∷ [])) xs)
+      (sym
+      (ap (λ (n : ℕ). take n (set list count (part e))) (add-one count) ∙
+      take-suc-set list count (part e) (subst (λ (n : ℕ). count < n) (sym (front .room)) below)))
+      (column-more e (front .column));
+}
+
+front-none : {part : Edge → ℕ} {list : List ℕ} → length list ≡ 576 → Front part [] 0 list
+front-none room = record { as-many = refl; room = room; column = record { as-many = refl; same = λ i l. absurd (not-suc-le-zero l) } }
+
+pub held-none : {source sink delay : List ℕ} → length source ≡ 576 → length sink ≡ 576 → length delay ≡ 576 → HeldFront 0 source sink delay []
+held-none r s t = record { sources = front-none r; sinks = front-none s; delays = front-none t }
+
+pub held-more :
+    {count : ℕ} {source sink delay : List ℕ} {es : List Edge} (e : Edge) → HeldFront count source sink delay es → count < 576
+    → HeldFront (count + 1) (set source count (e .source)) (set sink count (e .sink)) (set delay count (e .delay)) (es ++ (e ∷ []))
+held-more e held below = record {
+  sources = front-more e (held .sources) below;
+  sinks = front-more e (held .sinks) below;
+  delays = front-more e (held .delays) below;
+}
+
+front-same :
+    {part : Edge → ℕ} {es es′ : List Edge} {count count′ : ℕ} {list list′ : List ℕ} → Front part es count list → es′ ≡ es → count′ ≡ count → list′ ≡ list
+    → Front part es′ count′ list′
+front-same {part} {es} {es′} {count} {count′} {list} {list′} front p q r =
+    subst (λ (xs : List Edge). Front part xs count′ list′) (sym p)
+    (subst (λ (n : ℕ). Front part es n list′) (sym q) (subst (λ (xs : List ℕ). Front part es count xs) (sym r) front))
+
+-- the same edges, number of edges and lists by other names
+pub held-same :
+    {count count′ : ℕ} {source source′ sink sink′ delay delay′ : List ℕ} {es es′ : List Edge} → HeldFront count source sink delay es
+    → es′ ≡ es → count′ ≡ count → source′ ≡ source → sink′ ≡ sink → delay′ ≡ delay → HeldFront count′ source′ sink′ delay′ es′
+held-same held p q r s t = record {
+  sources = front-same (held .sources) p q r;
+  sinks = front-same (held .sinks) p q s;
+  delays = front-same (held .delays) p q t;
+}
+
+-- a list into which one number was stored has the room that it had
+pub stored-room : (list : List ℕ) (at x : ℕ) {list′ : List ℕ} → list′ ≡ set list at x → length list ≡ 576 → length list′ ≡ 576
+stored-room list at x stored room = ap length stored ∙ (length-set list at x ∙ room)
+
+-- one entry more of a list made place by place
+pub tabulate-more : {A : Type 0} (f : ℕ → A) (j : ℕ) → tabulate (j + 1) f ≡ tabulate j f ++ (f j ∷ [])
+unfolding tabulate
+tabulate-more f j = ap (λ (n : ℕ). tabulate n f) (add-one j)
+
+-- the edges of a result, from the fronts of its lists
+pub held-result : {r : ResultEdges} {es : List Edge} → HeldFront (r .count) (r .source) (r .sink) (r .delay) es → r .count ≤ 576 → HeldResult r es
+held-result {r} {es} held few = record {
+  as-many = held .sources .as-many;
+  few = few;
+  source-room = held .sources .room;
+  sink-room = held .sinks .room;
+  delay-room = held .delays .room;
+  held =
+      edges-of-columns (take (r .count) (r .source)) (take (r .count) (r .sink)) (take (r .count) (r .delay)) es (held .sources .column) (held .sinks .column)
+      (held .delays .column);
+}

@@ -1,0 +1,5 @@
+-- The proofs that other crates may cite.
+pub mod Keeping
+pub mod Fronts
+pub mod Paths
+pub mod Results

@@ -1,0 +1,190 @@
+// The result of a proposal, as lists: the graph's edges that lie on a cycle, which are its processor and feedback edges, then the
+// proposed ones.
+ghost use mathlib.Core.Path.{_≡_};
+ghost use mathlib.Core.List.{List, _++_};
+ghost use Prim.Native.Nat.{_+_, _*_, _≤_, _<_};
+ghost use lib.ListN.{length, set};
+ghost use Rattle.model.specs.Tasks.{Edge};
+ghost use Rattle.model.specs.Compute.{present, leastDelay};
+ghost use Rattle.records.specs.Columns.{edgesOf};
+ghost use Rattle.delays.specs.Delays.{delayTable, Fit};
+ghost use Rattle.results.specs.Results.{cyclic, resultOf, HeldResult};
+ghost use Rattle.results.specs.Fronts.{HeldFront};
+use delays::least_table;
+
+// The edges of a result: the first `count` entries of the lists. 64 processor edges, 256 feedback edges and 256 proposed ones fit.
+pub struct ResultEdges {
+    pub count: u32,
+    pub source: [u8; 576],
+    pub sink: [u8; 576],
+    pub delay: [u8; 576],
+}
+
+// Room for the least delays between 64 tasks.
+struct Table {
+    delay: [u16; 4096],
+}
+
+// No path.
+const NONE: u16 = 65535;
+
+// A table to write into.
+fn blank_table() -> Table
+    ensures { λ r. ⌜ length (r .delay) ≡ 4096 ⌝ }
+{
+    Table { delay: [0; 4096] }
+}
+
+// Lists to write into.
+fn blank_lists() -> ResultEdges
+    ensures { λ r. ⌜ (length (r .source) ≡ 576) × (length (r .sink) ≡ 576) × (length (r .delay) ≡ 576) ⌝ }
+{
+    ResultEdges {
+        count: 0,
+        source: [0; 576],
+        sink: [0; 576],
+        delay: [0; 576],
+    }
+}
+
+// Whether a path leads from one task to another, by the table of least delays.
+pub fn has_path(table: &[u16], tasks: usize, from: usize, to: usize) -> bool
+    requires { ⌜ (tasks ≤ 64) × (from < tasks) × (to < tasks) × (length (now table) ≡ tasks * tasks) ⌝ }
+    ensures { λ r. ⌜ ((es : List Edge) → Fit tasks es → now (table .entry) ≡ delayTable tasks es → r ≡ present (leastDelay tasks es from to)) ⌝ }
+{
+    table[from * tasks + to] != NONE
+}
+
+// Stores an edge at a place of three lists.
+fn store<'a>(
+    source: u8,
+    sink: u8,
+    delay: u8,
+    at: usize,
+    to_source: &'a mut [u8],
+    to_sink: &'a mut [u8],
+    to_delay: &'a mut [u8],
+)
+    requires { ⌜ (at < length (now «to_source»)) × (at < length (now «to_sink»)) × (at < length (now «to_delay»)) ⌝ }
+    ensures { λ _. ⌜ now («to_source» .exit) ≡ set (now («to_source» .entry)) at source ⌝ }
+    ensures { λ _. ⌜ now («to_sink» .exit) ≡ set (now («to_sink» .entry)) at sink ⌝ }
+    ensures { λ _. ⌜ now («to_delay» .exit) ≡ set (now («to_delay» .entry)) at delay ⌝ }
+{
+    to_source[at] = source;
+    to_sink[at] = sink;
+    to_delay[at] = delay;
+}
+
+// Stores the edges that lie on a cycle, where a path leads from the sink back to the source, at the front of three lists. Gives how many.
+fn keep_cyclic<'a, 'b>(
+    source: &'a [u8],
+    sink: &'a [u8],
+    delay: &'a [u8],
+    table: &'a [u16],
+    tasks: usize,
+    to_source: &'b mut [u8],
+    to_sink: &'b mut [u8],
+    to_delay: &'b mut [u8],
+) -> usize
+    requires { ⌜ (length (now sink) ≡ length (now source)) × (length (now delay) ≡ length (now source)) ⌝ }
+    requires { ⌜ (tasks ≤ 64) × (length (now source) ≤ 320) ⌝ }
+    requires { ⌜ Fit tasks (edgesOf (now source) (now sink) (now delay)) ⌝ }
+    requires { ⌜ now table ≡ delayTable tasks (edgesOf (now source) (now sink) (now delay)) ⌝ }
+    requires { ⌜ (length (now «to_source») ≡ 576) × (length (now «to_sink») ≡ 576) × (length (now «to_delay») ≡ 576) ⌝ }
+    ensures { λ r. ⌜ r ≤ 320 ⌝ }
+    ensures { λ r. ⌜ HeldFront r (now («to_source» .exit)) (now («to_sink» .exit)) (now («to_delay» .exit)) (cyclic tasks (edgesOf (now (source .entry)) (now (sink .entry)) (now (delay .entry)))) ⌝ }
+{
+    let mut kept = 0;
+    let mut j = 0;
+    while j < source.len() {
+        let s = source[j];
+        let t = sink[j];
+        if has_path(table, tasks, t as usize, s as usize) {
+            store(s, t, delay[j], kept, to_source, to_sink, to_delay);
+            kept += 1;
+        }
+        j += 1;
+    }
+    kept
+}
+
+// Stores edges behind the first `kept` edges of three lists.
+fn append<'a, 'b>(
+    source: &'a [u8],
+    sink: &'a [u8],
+    delay: &'a [u8],
+    kept: usize,
+    to_source: &'b mut [u8],
+    to_sink: &'b mut [u8],
+    to_delay: &'b mut [u8],
+)
+    requires { ⌜ (length (now sink) ≡ length (now source)) × (length (now delay) ≡ length (now source)) ⌝ }
+    requires { ⌜ kept + length (now source) ≤ 576 ⌝ }
+    requires { ⌜ (length (now «to_source») ≡ 576) × (length (now «to_sink») ≡ 576) × (length (now «to_delay») ≡ 576) ⌝ }
+    ensures { λ _. ⌜ ((es : List Edge) → HeldFront kept (now («to_source» .entry)) (now («to_sink» .entry)) (now («to_delay» .entry)) es → HeldFront (kept + length (now (source .entry))) (now («to_source» .exit)) (now («to_sink» .exit)) (now («to_delay» .exit)) (es ++ edgesOf (now (source .entry)) (now (sink .entry)) (now (delay .entry)))) ⌝ }
+{
+    let mut j = 0;
+    while j < source.len() {
+        store(
+            source[j],
+            sink[j],
+            delay[j],
+            kept + j,
+            to_source,
+            to_sink,
+            to_delay,
+        );
+        j += 1;
+    }
+}
+
+// The edges of the result of proposed edges, from the edges that order a graph.
+pub fn result_edges<'a>(
+    source: &'a [u8],
+    sink: &'a [u8],
+    delay: &'a [u8],
+    tasks: usize,
+    proposed_source: &'a [u8],
+    proposed_sink: &'a [u8],
+    proposed_delay: &'a [u8],
+) -> ResultEdges
+    requires { ⌜ (length (now sink) ≡ length (now source)) × (length (now delay) ≡ length (now source)) ⌝ }
+    requires { ⌜ (length (now «proposed_sink») ≡ length (now «proposed_source»)) × (length (now «proposed_delay») ≡ length (now «proposed_source»)) ⌝ }
+    requires { ⌜ (tasks ≤ 64) × (length (now source) ≤ 320) × (length (now «proposed_source») ≤ 256) ⌝ }
+    requires { ⌜ Fit tasks (edgesOf (now source) (now sink) (now delay)) ⌝ }
+    ensures { λ r. ⌜ HeldResult r (resultOf tasks (edgesOf (now (source .entry)) (now (sink .entry)) (now (delay .entry))) (edgesOf (now («proposed_source» .entry)) (now («proposed_sink» .entry)) (now («proposed_delay» .entry)))) ⌝ }
+{
+    let blank = blank_table();
+    let mut table = blank.delay;
+    least_table(source, sink, delay, tasks, &mut table);
+    let lists = blank_lists();
+    let mut to_source = lists.source;
+    let mut to_sink = lists.sink;
+    let mut to_delay = lists.delay;
+    let kept = keep_cyclic(
+        source,
+        sink,
+        delay,
+        &table[0..tasks * tasks],
+        tasks,
+        &mut to_source,
+        &mut to_sink,
+        &mut to_delay,
+    );
+    append(
+        proposed_source,
+        proposed_sink,
+        proposed_delay,
+        kept,
+        &mut to_source,
+        &mut to_sink,
+        &mut to_delay,
+    );
+    let count = kept + proposed_source.len();
+    ResultEdges {
+        count: count as u32,
+        source: to_source,
+        sink: to_sink,
+        delay: to_delay,
+    }
+}

@@ -1,0 +1,7 @@
+-- The proofs that other crates may cite.
+pub mod Chain
+pub mod Tested
+pub mod Meanings
+pub mod Tables
+pub mod Judging
+pub mod Sizes

@@ -1,0 +1,176 @@
+// Refusals 13 to 15: the verdict on proposed edges beside an accepted graph. No file is asked for: the edges may come from anywhere.
+ghost use mathlib.Core.Path.{_≡_};
+ghost use mathlib.Core.List.{List};
+ghost use Prim.Native.Nat.{ℕ, _*_, _≤_, _<_};
+ghost use lib.ListN.{length};
+ghost use Rattle.model.specs.Tasks.{Edge};
+ghost use Rattle.model.specs.Graph.{Graph};
+ghost use Rattle.records.specs.Columns.{edgesOf, at};
+ghost use Rattle.delays.specs.Delays.{Fit};
+ghost use Rattle.verdicts.specs.Verdicts.{judgement, OpenPlace, Judgeable};
+ghost use Rattle.verdicts.specs.Tables.{TableOf, FoundCyclic, lostFrom};
+use delays::least_table;
+use files::Refusal;
+use readings::GraphReading;
+use readings::ProposalReading;
+use results::has_path;
+use results::result_edges;
+
+// The verdict on proposed edges: the refusal, and the latency of the result if it is accepted or late, 0 otherwise.
+pub struct Judgement {
+    pub refusal: Refusal,
+    pub latency: u32,
+}
+
+// Room for the least delays between 64 tasks.
+struct Table {
+    delay: [u16; 4096],
+}
+
+const PASSED: Refusal = Refusal {
+    number: 0,
+    place: 0,
+};
+
+const LATE: Refusal = Refusal {
+    number: 15,
+    place: 0,
+};
+
+// A table to write into.
+fn blank_table() -> Table
+    ensures { λ r. ⌜ length (r .delay) ≡ 4096 ⌝ }
+{
+    Table { delay: [0; 4096] }
+}
+
+// The place of an edge that lies on a cycle, counted from 1, or 0 if none does: by the least delays of the graph that has them.
+fn cyclic_place<'a>(source: &'a [u8], sink: &'a [u8], table: &'a [u16], tasks: usize) -> u32
+    requires { ⌜ (length (now sink) ≡ length (now source)) × (length (now source) ≤ 256) ⌝ }
+    requires { ⌜ (tasks ≤ 64) × (length (now table) ≡ tasks * tasks) ⌝ }
+    requires { ⌜ ((j : ℕ) → j < length (now source) → (at (now source) j < tasks) × (at (now sink) j < tasks)) ⌝ }
+    ensures { λ r. ⌜ ((rs : List Edge) → TableOf tasks rs (now (table .entry)) → FoundCyclic tasks rs (now (source .entry)) (now (sink .entry)) r) ⌝ }
+{
+    let mut j = 0;
+    while j < source.len() {
+        let from = source[j] as usize;
+        let to = sink[j] as usize;
+        if has_path(table, tasks, to, from) {
+            return j as u32 + 1;
+        }
+        j += 1;
+    }
+    0
+}
+
+// 14: the first edge of a graph's file whose order is lost, by the least delays of the result; processor edges stand first in the
+// lists, one for each task.
+fn lost_order<'a>(
+    source: &'a [u8],
+    sink: &'a [u8],
+    delay: &'a [u8],
+    table: &'a [u16],
+    tasks: usize,
+) -> Refusal
+    requires { ⌜ (length (now sink) ≡ length (now source)) × (length (now delay) ≡ length (now source)) ⌝ }
+    requires { ⌜ (tasks ≤ length (now source)) × (length (now source) ≤ 320) ⌝ }
+    requires { ⌜ (tasks ≤ 64) × (length (now table) ≡ tasks * tasks) ⌝ }
+    requires { ⌜ Fit tasks (edgesOf (now source) (now sink) (now delay)) ⌝ }
+    ensures { λ r. ⌜ ((rs : List Edge) → TableOf tasks rs (now (table .entry)) → r ≡ lostFrom tasks rs (now (source .entry)) (now (sink .entry)) (now (delay .entry))) ⌝ }
+{
+    let mut j = 0;
+    while tasks + j < source.len() {
+        let from = source[tasks + j] as usize;
+        let to = sink[tasks + j] as usize;
+        if (delay[tasks + j] as u16) < table[from * tasks + to] {
+            return Refusal {
+                number: 14,
+                place: j as u32 + 1,
+            };
+        }
+        j += 1;
+    }
+    PASSED
+}
+
+// Judges proposed edges beside a graph.
+pub fn judge(graph: GraphReading, proposal: ProposalReading) -> Judgement
+    requires { ⌜ ((g : Graph) × (proposed : List Edge) × Judgeable graph proposal g proposed) ⌝ }
+    ensures { λ r. ⌜ ((g : Graph) (proposed : List Edge) → Judgeable graph proposal g proposed → r ≡ judgement g proposed (r .refusal .place)) ⌝ }
+    ensures { λ r. ⌜ ((g : Graph) (proposed : List Edge) → Judgeable graph proposal g proposed → r .refusal .number ≡ 13 → OpenPlace g proposed (r .refusal .place)) ⌝ }
+{
+    let tasks = graph.tasks as usize;
+    let end = tasks + graph.edges as usize;
+    let source = graph.source;
+    let sink = graph.sink;
+    let delay = graph.delay;
+    let proposed = proposal.edges as usize;
+    let proposed_source = proposal.source;
+    let proposed_sink = proposal.sink;
+    let proposed_delay = proposal.delay;
+    let result = result_edges(
+        &source[0..end],
+        &sink[0..end],
+        &delay[0..end],
+        tasks,
+        &proposed_source[0..proposed],
+        &proposed_sink[0..proposed],
+        &proposed_delay[0..proposed],
+    );
+    let count = result.count as usize;
+    let result_source = result.source;
+    let result_sink = result.sink;
+    let result_delay = result.delay;
+    let blank = blank_table();
+    let mut table = blank.delay;
+    least_table(
+        &result_source[0..count],
+        &result_sink[0..count],
+        &result_delay[0..count],
+        tasks,
+        &mut table,
+    );
+    let place = cyclic_place(
+        &proposed_source[0..proposed],
+        &proposed_sink[0..proposed],
+        &table[0..tasks * tasks],
+        tasks,
+    );
+    if place != 0 {
+        return Judgement {
+            refusal: Refusal { number: 13, place },
+            latency: 0,
+        };
+    }
+    let lost = lost_order(
+        &source[0..end],
+        &sink[0..end],
+        &delay[0..end],
+        &table[0..tasks * tasks],
+        tasks,
+    );
+    if lost.number != 0 {
+        return Judgement {
+            refusal: lost,
+            latency: 0,
+        };
+    }
+    let time = graph.time;
+    let latency = starts::latency(
+        &result_source[0..count],
+        &result_sink[0..count],
+        &result_delay[0..count],
+        &time[0..tasks],
+        graph.output as usize,
+    );
+    if graph.bound < latency {
+        return Judgement {
+            refusal: LATE,
+            latency,
+        };
+    }
+    Judgement {
+        refusal: PASSED,
+        latency,
+    }
+}
