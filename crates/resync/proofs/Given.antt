@@ -60,7 +60,7 @@ module _ {b : Bool} {p : Type 0} (d : Decides b p) (n : ℕ) (some : n ≢ 0) (r
 
 -- ── The checks up to 12 ──
 
-up-to-12 : (s : List ℕ) → acceptanceRefusal s .number ≤ 12
+pub up-to-12 : (s : List ℕ) → acceptanceRefusal s .number ≤ 12
 up-to-12 s = go (order (acceptanceRefusal s .number) 12)
   where
     never : {m : ℕ} → 12 < m → Judged (graphOf s) m → ⊥

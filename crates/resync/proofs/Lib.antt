@@ -4,4 +4,7 @@ pub mod Results
 pub mod Given
 pub mod Written
 pub mod Meanings
+pub mod Margins
+pub mod Weighed
+pub mod Verdicts
 pub mod Example

@@ -4,12 +4,8 @@ use mathlib.Core.Path.{_≡_, sym, ap, _∙_}
 use mathlib.Core.Logic.{_≢_}
 use mathlib.Core.List.{List, [], _∷_, _++_}
 use Prim.Native.Nat.{ℕ, _-_, _*_, _≤_}
-use native.Mathlib.Nat.{sub-zero}
-use native.Mathlib.Omega.{arith}
-use lib.ListN.{length, take, drop, length-append}
-use lib.Seq.{take-at}
+use lib.ListN.{length, drop}
 use Rattle.records.specs.Columns.{at}
-use Rattle.model.specs.Tasks.{Edge}
 use Rattle.model.specs.Graph.{count, edges}
 use Rattle.model.specs.Compute.{isRedundant, latencyOf}
 use Rattle.files.specs.declared.Refusal.{Refusal}
@@ -20,7 +16,6 @@ use Rattle.marks.specs.declared.Marks.{Marks}
 use Rattle.marks.specs.Marks.{marksOf, markAt, setBelow}
 use Rattle.marks.proofs.Laws.{count-of}
 use Rattle.delays.specs.Delays.{delayTable}
-use Rattle.delays.proofs.Table.{table-length}
 use Rattle.starts.specs.Starts.{turnRows}
 use Rattle.schedule.specs.declared.Acceptance.{Acceptance}
 use Rattle.schedule.specs.Schedule.{acceptanceRefusal, acceptance}
@@ -185,14 +180,3 @@ module _ (s : List ℕ) {r : Acceptance} (is : r ≡ acceptance s) where
         sym
         (if-passed (timetableRefusal s turns (length starts) .number) (startsOf s turns ++ drop (tasksOf s * turns) starts) starts
         (number-same (sym timetable-checked) ∙ none)))
-
--- ── A table written at the front of a list ──
-
-pub table-front : (n : ℕ) (es : List Edge) (past : List ℕ) {xs : List ℕ} → xs ≡ delayTable n es ++ past → take (n * n - 0) xs ≡ delayTable n es
-table-front n es past written =
-    ap (λ (zs : List ℕ). take (n * n - 0) zs) written ∙ take-at (delayTable n es) past (n * n - 0) (table-length n es ∙ sym (sub-zero (n * n)))
-
-pub table-room : (n : ℕ) (es : List Edge) (past : List ℕ) {xs : List ℕ} → xs ≡ delayTable n es ++ past → n * n ≤ length xs
-table-room n es past written =
-    let whole = ap length written ∙ length-append (delayTable n es) past in
-    omega (arith, whole, table-length n es)

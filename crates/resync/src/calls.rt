@@ -51,7 +51,7 @@ fn no_marks() -> Marks
 }
 
 // A refusal as a call gives it: no latency and no margin.
-fn told(refusal: Refusal) -> Outcome
+pub fn told(refusal: Refusal) -> Outcome
     ensures { λ r. ⌜ r ≡ outcome refusal ⌝ }
 {
     Outcome {

@@ -1,5 +1,6 @@
 // The calls on a graph: figures, least delays, redundant edges, timetable. Each takes a graph file's bytes, whatever they are.
 mod calls;
+mod proposals;
 
 pub use calls::figures;
 pub use calls::least_delays;
@@ -7,6 +8,7 @@ pub use calls::places;
 pub use calls::redundant;
 pub use calls::timetable;
 use marks::Marks;
+pub use proposals::verdict;
 
 // What a call says: number 0 if it succeeds, else document 01's number of the refusal, and place, latency and margin where 01
 // names them for that number, 0 elsewhere.
@@ -33,4 +35,13 @@ pub struct RedundantSet {
     pub outcome: Outcome,
     pub marks: Marks,
     pub count: u32,
+}
+
+// The verdict on a proposal: the latency of its result, and the bound less that latency; 0 if it is refused, and then 15 has both
+// in its outcome.
+#[repr(C)]
+pub struct ProposalVerdict {
+    pub outcome: Outcome,
+    pub latency: u32,
+    pub margin: i32,
 }

@@ -4,12 +4,14 @@ ghost use lib.ListN.{length};
 ghost use Rattle.readings.specs.Working.{graphReading, proposalReading};
 ghost use Rattle.marks.specs.Marks.{markAt, placesOf};
 ghost use Rattle.resync.specs.Calls.{outcome, figuresOf, delaysRefusal, delaysAfter, redundantOf, timetableRefusal, timetableAfter};
+ghost use Rattle.resync.specs.Verdict.{VerdictAnswer};
 use marks::Marks;
 use marks::Places;
 use readings::GraphReading;
 use readings::ProposalReading;
 use resync::GraphFigures;
 use resync::Outcome;
+use resync::ProposalVerdict;
 use resync::RedundantSet;
 
 // Which graph a file is, or which refusal of 1 to 8 it gets.
@@ -68,4 +70,12 @@ pub extern "C" fn resync_timetable(graph: &[u8], turns: usize, starts: &mut [u32
     ensures starts { λ _. ⌜ now (starts .exit) ≡ timetableAfter (now (graph .entry)) turns (now (starts .entry)) ⌝ }
 {
     resync::timetable(graph, turns, starts)
+}
+
+// Whether a proposal is accepted beside a graph, with the latency of its result and its margin, or why not.
+#[no_mangle]
+pub extern "C" fn resync_verdict(graph: &[u8], proposal: &[u8]) -> ProposalVerdict
+    ensures { λ r. ⌜ VerdictAnswer (now (graph .entry)) (now (proposal .entry)) r ⌝ }
+{
+    resync::verdict(graph, proposal)
 }

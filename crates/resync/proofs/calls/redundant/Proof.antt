@@ -7,7 +7,8 @@ use Rattle.redundancy.specs.Redundancy.{HeldGraph}
 use Rattle.schedule.proofs.Fronts.{frontEdges}
 use Rattle.records.proofs.Rows.{product-small}
 use Rattle.resync.proofs.Checked.{lists-within, few-tasks, well-formed, accepted, read-fronts, read-fit}
-use Rattle.resync.proofs.Results.{redundant-refused, redundant-read, table-front, table-room}
+use Rattle.delays.proofs.Table.{table-front, table-room}
+use Rattle.resync.proofs.Results.{redundant-refused, redundant-read}
 use borrow.Author.Needs.{needs}
 use Rattle.resync.proofs.calls.redundant.Statement.{statement}
 use Rattle.resync.proofs.calls.redundant.Tie as tie
