@@ -1,0 +1,351 @@
+-- The example desk's cases, by computation: what each file holds, that its checks pass, and what the numbers are, each as a small equation; the answers
+-- are put together from these.
+use mathlib.Core.Path.{_≡_, refl, sym, ap, _∙_, subst}
+use mathlib.Core.Logic.{_≢_}
+use mathlib.Core.Bool.{Bool}
+use mathlib.Core.List.{List, [], _∷_, _++_, List·Memᴰ, List·Memᴰ·head as here, List·Memᴰ·tail as there, List·Memᴰ·not-nil}
+use Prim.Native.Nat.{ℕ, zero, suc, _*_, _≤_, _<_}
+use native.Mathlib.Omega.{arith}
+use lib.Dec.{ltb, lit<}
+use lib.IntN.{pos, negsuc}
+use lib.ListN.{length, drop, getD}
+use Rattle.bits.specs.Bits.{bitAt, field}
+use Rattle.model.specs.Lists.{tabulate, anyBelow, counted}
+use Rattle.model.specs.Tasks.{Edge, processorOf}
+use Rattle.model.specs.Processors.{processorEdges}
+use Rattle.model.specs.Graph.{Graph, count, edges, timeOf}
+use Rattle.model.specs.Paths.{syncAt}
+use Rattle.model.specs.Compute.{leastDelay, isRedundant, sameEdge, zeroCycle, inputFree, joined, earliest, latency, latencyOf, onCycle, orderHolds}
+use Rattle.model.specs.Proposals.{result}
+use Rattle.model.specs.Example.{edge, deskBound, looped as loopedEdges}
+use Rattle.model.proofs.Example.{desk-on-cycle}
+use Rattle.records.specs.Columns.{rows}
+use Rattle.marks.specs.Marks.{number, wordOf, marksOf}
+use Rattle.layout.specs.Layout.{graphHeader, proposalHeader, taskAt, edgeAt, filling}
+use Rattle.files.specs.declared.Refusal.{Refusal}
+use Rattle.files.specs.Refusals.{notRefused, refuse, choose, first, ifPassed}
+use Rattle.files.specs.Files.{edgesFrom, graphOf, proposalOf, edgeIn, endOutside, withinProcessor, repeatsEarlier, timeRefusal, endsRefusal, edgeRefusal, repeatRefusal, firstOf, graphBits, proposalBits, graphHeaderRefusal, proposalHeaderRefusal, lengthRefusal, fillingRefusal, zerosRefusal, headerEndsRefusal, graphFrameRefusal, graphRecordsRefusal, graphRefusal, proposalFrameRefusal, proposedEdgesRefusal, proposalRefusal}
+use Rattle.files.proofs.First.{number-same, if-passed}
+use Rattle.delays.specs.Delays.{entry, delayRow, delayTable}
+use Rattle.starts.specs.Starts.{turnRow, turnRows}
+use Rattle.schedule.specs.Schedule.{scheduleChecks, scheduleRefusal, acceptanceRefusal}
+use Rattle.schedule.proofs.Judged.{accepted-iff-passed}
+use Rattle.verdicts.specs.Verdicts.{someOnCycle, lostRefusal, judgedRefusal, OpenPlace}
+use Rattle.resync.specs.declared.ProposalVerdict.{ProposalVerdict}
+use Rattle.resync.specs.Calls.{outcome, tasksOf, tableOf, delaysRefusal, delaysAfter, noMarks, redundantOf, startsOf, timetableRefusal, timetableAfter}
+use Rattle.resync.specs.Theorems.{AcceptedFile}
+use Rattle.resync.specs.Verdict.{VerdictAnswer, verdictOf, verdictRefusal, toldLate, countedMargin, margin, resultLatency}
+use Rattle.resync.proofs.Meanings.{delays-given, timetable-given, success-plain}
+use Rattle.claims.specs.Cases.{Case, delays, first-word, starts, verdict, on-cycle, accepted, refused, Holds, deskFile, desk, exampleProposal, emptyProposal, firstOnly, delayed, looped, cases, AllHold}
+
+-- ── The graph files ──
+
+-- the desk, whatever bound its byte gives
+desk-read : (byte : ℕ) {l : ℕ} → graphOf (deskFile byte) .bound ≡ l → graphOf (deskFile byte) ≡ deskBound l
+unfolding graphOf edgesFrom graphHeader taskAt edgeAt tabulate field bitAt
+desk-read byte bound = ap deskBound bound
+
+bounds :
+    (graphOf (deskFile 12) .bound ≡ 12) × (graphOf (deskFile 10) .bound ≡ 10) × (graphOf (deskFile 9) .bound ≡ 9) × (graphOf (deskFile 8) .bound ≡ 8)
+unfolding graphOf graphHeader field bitAt
+bounds = (refl, refl, refl, refl)
+
+desk-formed : (byte : ℕ) → graphRefusal (deskFile byte) ≡ notRefused
+unfolding graphRefusal graphFrameRefusal graphHeaderRefusal lengthRefusal fillingRefusal filling headerEndsRefusal graphRecordsRefusal firstOf first choose refuse
+    timeRefusal timeOf edgeRefusal endsRefusal endOutside withinProcessor processorOf repeatRefusal repeatsEarlier anyBelow sameEdge edgeIn
+    graphBits graphOf edgesFrom graphHeader taskAt edgeAt tabulate field bitAt
+desk-formed byte = refl
+
+-- its latency is 9, so 12 comes exactly for bounds below that
+desk-judged : (l : ℕ) {late : Bool} → ltb l 9 ≡ late → scheduleRefusal (deskBound l) ≡ first (refuse late 12 0 ∷ [])
+unfolding scheduleRefusal scheduleChecks first choose refuse zeroCycle inputFree joined latency edges processorEdges timeOf
+desk-judged l is = ap (λ (b : Bool). first (refuse b 12 0 ∷ [])) is
+
+module _ (byte : ℕ) {l : ℕ} (bound : graphOf (deskFile byte) .bound ≡ l) where
+  desk-checked : {late : Bool} → ltb l 9 ≡ late → acceptanceRefusal (deskFile byte) ≡ first (notRefused ∷ first (refuse late 12 0 ∷ []) ∷ [])
+  unfolding acceptanceRefusal
+  desk-checked is = λ i. first (desk-formed byte i ∷ (ap scheduleRefusal (desk-read byte bound) ∙ desk-judged l is) i ∷ [])
+
+-- the four desks
+desk-is : graphOf desk ≡ deskBound 12
+desk-is = desk-read 12 (bounds .0)
+
+desk-10-is : graphOf (deskFile 10) ≡ deskBound 10
+desk-10-is = desk-read 10 (bounds .1)
+
+desk-9-is : graphOf (deskFile 9) ≡ deskBound 9
+desk-9-is = desk-read 9 (bounds .2)
+
+desk-passes : acceptanceRefusal desk ≡ notRefused
+unfolding first choose refuse
+desk-passes = desk-checked 12 (bounds .0) refl
+
+desk-10-passes : acceptanceRefusal (deskFile 10) ≡ notRefused
+unfolding first choose refuse
+desk-10-passes = desk-checked 10 (bounds .1) refl
+
+desk-9-passes : acceptanceRefusal (deskFile 9) ≡ notRefused
+unfolding first choose refuse
+desk-9-passes = desk-checked 9 (bounds .2) refl
+
+desk-8-refused : acceptanceRefusal (deskFile 8) ≡ record { number = 12; place = 0 }
+unfolding first choose refuse
+desk-8-refused = desk-checked 8 (bounds .3) refl
+
+-- ── Least delays, marks and starts ──
+
+desk-accepted : AcceptedFile desk
+desk-accepted = accepted-iff-passed desk .0 (number-same desk-passes)
+
+four-tasks : tasksOf desk ≡ 4
+unfolding tasksOf
+four-tasks = ap count desk-is
+
+desk-table : tableOf desk ≡ 1 ∷ 0 ∷ 0 ∷ 0 ∷ 1 ∷ 1 ∷ 1 ∷ 0 ∷ 65535 ∷ 65535 ∷ 1 ∷ 0 ∷ 65535 ∷ 65535 ∷ 1 ∷ 1 ∷ []
+unfolding tableOf tasksOf delayTable delayRow entry rows tabulate edges processorEdges leastDelay
+desk-table = ap (λ (g : Graph). delayTable (count g) (edges g)) desk-is
+
+desk-starts : startsOf desk 2 ≡ 0 ∷ 2 ∷ 2 ∷ 5 ∷ 5 ∷ 7 ∷ 9 ∷ 10 ∷ []
+unfolding startsOf tasksOf turnRows turnRow rows tabulate edges processorEdges timeOf earliest
+desk-starts = ap (λ (g : Graph). turnRows (count g) (edges g) (timeOf g) 2) desk-is
+
+delays-hold : Holds (delays desk (1 ∷ 0 ∷ 0 ∷ 0 ∷ 1 ∷ 1 ∷ 1 ∷ 0 ∷ 65535 ∷ 65535 ∷ 1 ∷ 0 ∷ 65535 ∷ 65535 ∷ 1 ∷ 1 ∷ []))
+unfolding outcome delaysAfter
+delays-hold lent room =
+    let none = delays-given desk (length lent) .1 (desk-accepted, subst (λ (n : ℕ). n * n ≤ length lent) (sym four-tasks) room) in (
+      ap outcome (success-plain desk 0 (length lent) .1 none),
+      if-passed (delaysRefusal desk (length lent) .number) (tableOf desk ++ drop (tasksOf desk * tasksOf desk) lent) lent none ∙
+          (λ i. desk-table i ++ drop (four-tasks i * four-tasks i) lent),
+    )
+
+starts-hold : Holds (starts desk 2 (0 ∷ 2 ∷ 2 ∷ 5 ∷ 5 ∷ 7 ∷ 9 ∷ 10 ∷ []))
+unfolding outcome timetableAfter
+starts-hold lent room =
+    let enough : tasksOf desk * 2 ≤ length lent = subst (λ (n : ℕ). n * 2 ≤ length lent) (sym four-tasks) room in
+    let none = timetable-given desk 2 (length lent) .1 (omega arith, omega arith, desk-accepted, enough) in (
+      ap outcome (success-plain desk 2 (length lent) .2 none),
+      if-passed (timetableRefusal desk 2 (length lent) .number) (startsOf desk 2 ++ drop (tasksOf desk * 2) lent) lent none ∙
+          (λ i. desk-starts i ++ drop (four-tasks i * 2) lent),
+    )
+
+marks-hold : Holds (first-word desk 0x2000000000000000)
+unfolding outcome redundantOf ifPassed marksOf wordOf number counted edges processorEdges isRedundant
+marks-hold = (ap outcome desk-passes, λ i. getD (ifPassed (desk-passes i .number) (marksOf (isRedundant (desk-is i))) noMarks .words) 0 0)
+
+-- ── The proposal files ──
+
+-- 1→2; 0→2; 1→2 with delay 1
+abbrev example : List Edge
+example = edge 1 2 0 ∷ []
+
+abbrev onlyFirst : List Edge
+onlyFirst = edge 0 2 0 ∷ []
+
+abbrev withDelay : List Edge
+withDelay = edge 1 2 1 ∷ []
+
+proposals-read :
+    (proposalOf exampleProposal ≡ example) × (proposalOf emptyProposal ≡ []) × (proposalOf firstOnly ≡ onlyFirst) × (proposalOf delayed ≡ withDelay) ×
+    (proposalOf looped ≡ loopedEdges)
+unfolding proposalOf edgesFrom proposalHeader edgeAt tabulate field bitAt
+proposals-read = (refl, refl, refl, refl, refl)
+
+proposals-formed :
+    (proposalRefusal 4 exampleProposal ≡ notRefused) × (proposalRefusal 4 emptyProposal ≡ notRefused) × (proposalRefusal 4 firstOnly ≡ notRefused) ×
+    (proposalRefusal 4 delayed ≡ notRefused) × (proposalRefusal 4 looped ≡ notRefused)
+unfolding proposalRefusal proposalFrameRefusal proposalHeaderRefusal lengthRefusal zerosRefusal fillingRefusal filling proposedEdgesRefusal firstOf first choose refuse
+    endsRefusal endOutside repeatRefusal repeatsEarlier anyBelow sameEdge edgeIn proposalBits proposalOf edgesFrom proposalHeader edgeAt tabulate field bitAt
+proposals-formed = (refl, refl, refl, refl, refl)
+
+-- what each gets of 13 to 15
+example-judged :
+    (place : ℕ) →
+    (judgedRefusal (deskBound 12) example place ≡ notRefused) × (judgedRefusal (deskBound 10) example place ≡ notRefused) ×
+    (judgedRefusal (deskBound 9) example place ≡ record { number = 15; place = 0 })
+unfolding judgedRefusal someOnCycle lostRefusal firstOf first choose refuse tabulate anyBelow edgeIn syncAt onCycle orderHolds latencyOf result edges
+    processorEdges timeOf
+example-judged place = (refl, refl, refl)
+
+example-latency :
+    (latencyOf (result (deskBound 12) example) ≡ 10) × (latencyOf (result (deskBound 10) example) ≡ 10) × (latencyOf (result (deskBound 9) example) ≡ 10)
+unfolding latencyOf result edges processorEdges timeOf
+example-latency = (refl, refl, refl)
+
+others-judged :
+    (place : ℕ) →
+    (judgedRefusal (deskBound 12) [] place ≡ record { number = 14; place = 1 }) ×
+    (judgedRefusal (deskBound 12) onlyFirst place ≡ record { number = 14; place = 2 }) ×
+    (judgedRefusal (deskBound 12) withDelay place ≡ record { number = 14; place = 1 }) ×
+    (judgedRefusal (deskBound 12) loopedEdges place ≡ record { number = 13; place = place })
+unfolding judgedRefusal someOnCycle lostRefusal firstOf first choose refuse tabulate anyBelow edgeIn syncAt onCycle orderHolds latencyOf result edges
+    processorEdges timeOf
+others-judged place = (refl, refl, refl, refl)
+
+-- ── Verdicts ──
+
+-- the answer from what the checks give, bound and latency
+unfoldable put : Refusal → Refusal → Refusal → ℕ → ℕ → ProposalVerdict
+put graph proposal judged bound late =
+    record {
+      outcome = toldLate (first (graph ∷ proposal ∷ judged ∷ [])) bound late;
+      latency = ifPassed (first (graph ∷ proposal ∷ judged ∷ []) .number) late 0;
+      margin = ifPassed (first (graph ∷ proposal ∷ judged ∷ []) .number) (margin bound late) (pos 0);
+    }
+
+verdict-put :
+    (s p : List ℕ) (place : ℕ) →
+    verdictOf s p place ≡
+    put (acceptanceRefusal s) (proposalRefusal (tasksOf s) p) (judgedRefusal (graphOf s) (proposalOf p) place) (graphOf s .bound) (resultLatency s p)
+unfolding verdictOf verdictRefusal put
+verdict-put s p place = refl
+
+-- the verdict on a well-formed proposal beside an accepted desk
+desk-verdict :
+    (s p : List ℕ) {l : ℕ} {es : List Edge} → graphOf s ≡ deskBound l → acceptanceRefusal s ≡ notRefused → proposalOf p ≡ es →
+    proposalRefusal 4 p ≡ notRefused → (place : ℕ) {q : Refusal} → judgedRefusal (deskBound l) es place ≡ q →
+    verdictOf s p place ≡ put notRefused notRefused q l (latencyOf (result (deskBound l) es))
+unfolding tasksOf resultLatency
+desk-verdict s p {l} {es} read passes edges-read formed place judged =
+    verdict-put s p place ∙
+    (λ i.
+    put (passes i) ((ap (λ (g : Graph). proposalRefusal (count g) p) read ∙ formed) i)
+    (((λ j. judgedRefusal (read j) (edges-read j) place) ∙ judged) i)
+    (read i .bound) (latencyOf (result (read i) (edges-read i))))
+
+-- one answer whatever the place: the contract allows it alone
+only-answer :
+    (s p : List ℕ) (answer : ProposalVerdict) → answer .outcome .number ≢ 13 → ((place : ℕ) → verdictOf s p place ≡ answer) → Holds (verdict s p answer)
+only-answer s p answer other always r = (
+  λ h. h .settled ∙ always (r .outcome .place),
+  λ is.
+      record {
+        settled = is ∙ sym (always (r .outcome .place));
+        left-open = λ thirteen. absurd (other (sym (ap (λ (x : ProposalVerdict). x .outcome .number) is) ∙ thirteen));
+      },
+)
+
+example-12 : Holds (verdict desk exampleProposal (accepted 10 (pos 2)))
+unfolding put toldLate first choose ifPassed counted countedMargin margin
+example-12 =
+    only-answer desk exampleProposal (accepted 10 (pos 2)) (λ z. omega arith)
+    (λ place.
+    desk-verdict desk exampleProposal desk-is desk-passes (proposals-read .0) (proposals-formed .0) place (example-judged place .0) ∙
+    ap (put notRefused notRefused notRefused 12) (example-latency .0))
+
+example-10 : Holds (verdict (deskFile 10) exampleProposal (accepted 10 (pos 0)))
+unfolding put toldLate first choose ifPassed counted countedMargin margin
+example-10 =
+    only-answer (deskFile 10) exampleProposal (accepted 10 (pos 0)) (λ z. omega arith)
+    (λ place.
+    desk-verdict (deskFile 10) exampleProposal desk-10-is desk-10-passes (proposals-read .0) (proposals-formed .0) place (example-judged place .1) ∙
+    ap (put notRefused notRefused notRefused 10) (example-latency .1))
+
+example-9 : Holds (verdict (deskFile 9) exampleProposal (refused 15 0 10 (negsuc 0)))
+unfolding put toldLate first choose ifPassed counted countedMargin margin
+example-9 =
+    only-answer (deskFile 9) exampleProposal (refused 15 0 10 (negsuc 0)) (λ z. omega arith)
+    (λ place.
+    desk-verdict (deskFile 9) exampleProposal desk-9-is desk-9-passes (proposals-read .0) (proposals-formed .0) place (example-judged place .2) ∙
+    ap (put notRefused notRefused (record { number = 15; place = 0 }) 9) (example-latency .2))
+
+example-8 : Holds (verdict (deskFile 8) exampleProposal (refused 12 0 0 (pos 0)))
+unfolding put toldLate first choose ifPassed counted countedMargin
+example-8 =
+    only-answer (deskFile 8) exampleProposal (refused 12 0 0 (pos 0)) (λ z. omega arith)
+    (λ place.
+    verdict-put (deskFile 8) exampleProposal place ∙
+    ap (λ (a : Refusal).
+    put a (proposalRefusal (tasksOf (deskFile 8)) exampleProposal) (judgedRefusal (graphOf (deskFile 8)) (proposalOf exampleProposal) place)
+    (graphOf (deskFile 8) .bound) (resultLatency (deskFile 8) exampleProposal)) desk-8-refused)
+
+empty-loses : Holds (verdict desk emptyProposal (refused 14 1 0 (pos 0)))
+unfolding put toldLate first choose ifPassed counted countedMargin
+empty-loses =
+    only-answer desk emptyProposal (refused 14 1 0 (pos 0)) (λ z. omega arith)
+    (λ place. desk-verdict desk emptyProposal desk-is desk-passes (proposals-read .1) (proposals-formed .1) place (others-judged place .0))
+
+first-loses : Holds (verdict desk firstOnly (refused 14 2 0 (pos 0)))
+unfolding put toldLate first choose ifPassed counted countedMargin
+first-loses =
+    only-answer desk firstOnly (refused 14 2 0 (pos 0)) (λ z. omega arith)
+    (λ place. desk-verdict desk firstOnly desk-is desk-passes (proposals-read .2) (proposals-formed .2) place (others-judged place .1))
+
+delayed-loses : Holds (verdict desk delayed (refused 14 1 0 (pos 0)))
+unfolding put toldLate first choose ifPassed counted countedMargin
+delayed-loses =
+    only-answer desk delayed (refused 14 1 0 (pos 0)) (λ z. omega arith)
+    (λ place. desk-verdict desk delayed desk-is desk-passes (proposals-read .3) (proposals-formed .3) place (others-judged place .2))
+
+-- ── 13 ──
+
+looped-verdict : (place : ℕ) → verdictOf desk looped place ≡ refused 13 place 0 (pos 0)
+unfolding put toldLate first choose ifPassed counted countedMargin
+looped-verdict place =
+    desk-verdict desk looped desk-is desk-passes (proposals-read .4) (proposals-formed .4) place (others-judged place .3)
+
+-- a place of three edges is 1, 2 or 3
+one-of-three : {place : ℕ} (before : ℕ) → place ≡ suc before → before < 3 → List·Memᴰ place (1 ∷ 2 ∷ 3 ∷ [])
+one-of-three zero is below = here is
+one-of-three (suc zero) is below = there (here is)
+one-of-three (suc (suc zero)) is below = there (there (here is))
+one-of-three (suc (suc (suc k))) is below = absurd (omega (arith, below))
+
+-- and each of them is that of an edge on a cycle of the result
+open-place : (place : ℕ) → List·Memᴰ place (1 ∷ 2 ∷ 3 ∷ []) → OpenPlace (deskBound 12) loopedEdges place
+unfolding edgeIn
+open-place place (here is) = record { before = 0; place-is = is; present = lit< tt; on-cycle = desk-on-cycle (edge 0 2 0) (here refl) }
+open-place place (there (here is)) = record { before = 1; place-is = is; present = lit< tt; on-cycle = desk-on-cycle (edge 1 3 0) (there (here refl)) }
+open-place place (there (there (here is))) =
+    record { before = 2; place-is = is; present = lit< tt; on-cycle = desk-on-cycle (edge 3 0 1) (there (there (here refl))) }
+open-place place (there (there (there m))) = absurd (List·Memᴰ·not-nil m)
+
+looped-on-cycle : Holds (on-cycle desk looped (1 ∷ 2 ∷ 3 ∷ []))
+looped-on-cycle r = (to, back)
+  where
+    to : VerdictAnswer desk looped r → (place : ℕ) × List·Memᴰ place (1 ∷ 2 ∷ 3 ∷ []) × (r ≡ refused 13 place 0 (pos 0))
+    to h =
+        let is : r ≡ refused 13 (r .outcome .place) 0 (pos 0) = h .settled ∙ looped-verdict (r .outcome .place) in
+        let found = h .left-open (ap (λ (x : ProposalVerdict). x .outcome .number) is) in (
+          r .outcome .place,
+          one-of-three (found .before) (found .place-is) (subst (λ (es : List Edge). found .before < length es) (proposals-read .4) (found .present)),
+          is,
+        )
+
+    back : (place : ℕ) × List·Memᴰ place (1 ∷ 2 ∷ 3 ∷ []) × (r ≡ refused 13 place 0 (pos 0)) → VerdictAnswer desk looped r
+    back (place, listed, is) =
+        let same : place ≡ r .outcome .place = sym (ap (λ (x : ProposalVerdict). x .outcome .place) is) in
+        record {
+          settled = is ∙ (sym (looped-verdict place) ∙ ap (verdictOf desk looped) same);
+          left-open = λ thirteen.
+              subst (OpenPlace (graphOf desk) (proposalOf looped)) same
+              (subst (λ (es : List Edge). OpenPlace (graphOf desk) es place) (sym (proposals-read .4))
+              (subst (λ (g : Graph). OpenPlace g loopedEdges place) (sym desk-is) (open-place place listed)));
+        }
+
+-- ── All of them ──
+
+-- a proof for each case of a list
+infixr 5 _then_
+data Each : List Case → Type 0 where
+  no-more : Each []
+  _then_ : {c : Case} {cs : List Case} → Holds c → Each cs → Each (c ∷ cs)
+
+each-holds : (cs : List Case) → Each cs → (c : Case) → List·Memᴰ c cs → Holds c
+each-holds (x ∷ cs) (holds then rest) c (here is) = subst Holds (sym is) holds
+each-holds (x ∷ cs) (holds then rest) c (there m) = each-holds cs rest c m
+
+pub all-hold : AllHold
+all-hold =
+    each-holds cases
+    (delays-hold
+    then marks-hold
+    then starts-hold
+    then example-12
+    then example-10
+    then example-9
+    then example-8
+    then empty-loses
+    then first-loses
+    then delayed-loses
+    then looped-on-cycle
+    then no-more)

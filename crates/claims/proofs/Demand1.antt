@@ -1,0 +1,90 @@
+-- Demand 1 is met: each call's refusals follow its sequence, a sequence says one thing only, and the other fields and the lent lists are what resync
+-- proves of them.
+use mathlib.Core.Path.{_≡_, refl, ap, sym, _∙_}
+use mathlib.Core.Logic.{_≢_}
+use mathlib.Core.List.{List}
+use Prim.Native.Nat.{ℕ, _*_, _<_}
+use native.Mathlib.Omega.{arith}
+use lib.IntN.{pos}
+use Rattle.files.specs.declared.Refusal.{Refusal}
+use Rattle.files.specs.Files.{taskCount}
+use Rattle.schedule.specs.Schedule.{acceptanceRefusal}
+use Rattle.resync.specs.declared.Outcome.{Outcome}
+use Rattle.resync.specs.Calls.{outcome, figuresOf, redundantOf, delaysRefusal, timetableRefusal}
+use Rattle.resync.proofs.Meanings.{figures-refused, redundant-refused, success-plain, delays-kept, timetable-kept}
+use Rattle.claims.specs.Demand1.{Sequence, Says, _when_, graphChecks, delaysChecks, timetableChecks, verdictChecks, Obeys, Demand1}
+use Rattle.claims.proofs.Sequences.{Follows, says, All, all-both, OnePlace, settled, says-one}
+use Rattle.claims.proofs.Followed.{graph-follows, graph-earlier, delays-follow, timetable-follows}
+use Rattle.claims.proofs.Verdicts.{verdict-settled, verdict-says, place-passed, verdict-unnamed, verdict-plain, verdict-late}
+
+module _ (checks : Sequence) (one-place : All OnePlace checks) where
+  obeys :
+      (o : Outcome) → Says checks (o .number) (o .place) → (o .number ≢ 15 → (o .latency ≡ 0) × (o .margin ≡ pos 0)) →
+      (o .number ≡ 0 → o .place ≡ 0) → Obeys checks o
+  obeys o said unnamed nowhere =
+      record {
+        called-for = said;
+        never-otherwise = λ number place other. says-one checks one-place number (o .number) place (o .place) other said;
+        unnamed = unnamed;
+        not-refused = λ none. let plain = unnamed (λ is. omega (arith, none, is)) in (nowhere none, plain .0, plain .1);
+      }
+
+  -- a call whose refusals name neither latency nor margin
+  obeys-plainly : (r : Refusal) → Follows checks r → (r .number ≡ 0 → r .place ≡ 0) → Obeys checks (outcome r)
+  unfolding outcome
+  obeys-plainly r follows nowhere = obeys (outcome r) (says checks r follows nowhere) (λ other. (refl, refl)) nowhere
+
+graph-settled : (s : List ℕ) → All OnePlace (graphChecks s)
+graph-settled s = settled (graphChecks s) (graph-earlier s)
+
+-- 16 and 17 name no place
+no-place : {number : ℕ} → number ≢ 13 → (p q : ℕ) → p ≡ 0 → q ≡ 0 → p ≡ q
+no-place other p q e f = e ∙ sym f
+
+delays-settled : (s : List ℕ) (room : ℕ) → All OnePlace (delaysChecks s room)
+unfolding delaysChecks
+delays-settled s room = all-both OnePlace (graphChecks s) (16 when room < taskCount s * taskCount s) (graph-settled s) (no-place, tt)
+
+timetable-settled : (s : List ℕ) (turns room : ℕ) → All OnePlace (timetableChecks s turns room)
+unfolding timetableChecks
+timetable-settled s turns room =
+    (no-place, all-both OnePlace (graphChecks s) (16 when room < taskCount s * turns) (graph-settled s) (no-place, tt))
+
+-- no place where nothing is refused
+graph-nowhere : (s : List ℕ) → acceptanceRefusal s .number ≡ 0 → acceptanceRefusal s .place ≡ 0
+graph-nowhere s none = ap (λ (r : Refusal). r .place) (success-plain s 0 0 .0 none)
+
+delays-nowhere : (s : List ℕ) (room : ℕ) → delaysRefusal s room .number ≡ 0 → delaysRefusal s room .place ≡ 0
+delays-nowhere s room none = ap (λ (r : Refusal). r .place) (success-plain s 0 room .1 none)
+
+timetable-nowhere : (s : List ℕ) (turns room : ℕ) → timetableRefusal s turns room .number ≡ 0 → timetableRefusal s turns room .place ≡ 0
+timetable-nowhere s turns room none = ap (λ (r : Refusal). r .place) (success-plain s turns room .2 none)
+
+figures-obey : (s : List ℕ) → Obeys (graphChecks s) (figuresOf s .outcome)
+unfolding figuresOf
+figures-obey s = obeys-plainly (graphChecks s) (graph-settled s) (acceptanceRefusal s) (graph-follows s) (graph-nowhere s)
+
+redundant-obeys : (s : List ℕ) → Obeys (graphChecks s) (redundantOf s .outcome)
+unfolding redundantOf
+redundant-obeys s = obeys-plainly (graphChecks s) (graph-settled s) (acceptanceRefusal s) (graph-follows s) (graph-nowhere s)
+
+pub demand1-met : Demand1
+demand1-met =
+    record {
+      figures = figures-obey;
+      figures-refused = λ s some. let h = figures-refused s some in (h .1, h .2, h .3);
+      redundant = redundant-obeys;
+      redundant-refused = λ s some. let h = redundant-refused s some in (h .1, h .2);
+      delays = λ s room. obeys-plainly (delaysChecks s room) (delays-settled s room) (delaysRefusal s room) (delays-follow s room) (delays-nowhere s room);
+      delays-kept = delays-kept;
+      timetable = λ s turns room.
+          obeys-plainly (timetableChecks s turns room) (timetable-settled s turns room) (timetableRefusal s turns room)
+          (timetable-follows s turns room) (timetable-nowhere s turns room);
+      timetable-kept = timetable-kept;
+      verdict = λ s p r answer.
+          obeys (verdictChecks s p) (verdict-settled s p) (r .outcome) (verdict-says s p r answer)
+          (verdict-unnamed s p r answer)
+          (place-passed s p r answer);
+      verdict-refused = λ s p r answer. verdict-plain s p r answer;
+      verdict-late = λ s p r answer. verdict-late s p r answer;
+    }

@@ -1,0 +1,263 @@
+-- Demand 2, proved: each number is given by a function of the model whose meaning the model proves, in the place that the rows give it (resync's
+-- Meanings). Here those meanings are read off the answers themselves: numbers in lists, bits of words, and of a verdict its latency and margin.
+use mathlib.Core.Path.{_≡_, refl, sym, ap, _∙_, subst}
+use mathlib.Core.Logic.{_↔_, _⊎_, inl, inr}
+use mathlib.Core.Bool.{Bool, cond}
+use mathlib.Core.List.{List, List·Memᴰ}
+use mathlib.Core.Option.{Option, none, some}
+use Prim.Native.Nat.{ℕ, zero, suc, _+_, _-_, _/_, _%_, _^_, _≤_, _<_}
+use native.Mathlib.Nat.{not-suc-le-zero}
+use native.Mathlib.Omega.{arith}
+use lib.Dec.{eqb, eqb→eq}
+use lib.IntN.{pos, negsuc, _-ℤ_}
+use lib.ListN.{length, getD, take}
+use lib.Seq.{take-at}
+use borrow.Author.Tests.{lt-ltb, le-ltb}
+use Rattle.model.specs.Lists.{sumOver, sumBelow, counted, always}
+use Rattle.model.specs.Tasks.{Edge, _∈_, Ends}
+use Rattle.model.specs.Graph.{count, edges, timeOf}
+use Rattle.model.specs.Paths.{Least, Redundant, Latency, NoneOnCycle}
+use Rattle.model.specs.Runs.{Times, Keeps, Earliest, estimates, MissesBound}
+use Rattle.model.specs.Proposals.{result}
+use Rattle.model.specs.Theorems.{Decides}
+use Rattle.model.proofs.Basics.{eq→eqb}
+use Rattle.model.proofs.Tests.{decides-true, decides-yes, decides-no, decided, eqb-decides}
+use Rattle.model.proofs.Graphs.{graph-ends}
+use Rattle.model.proofs.Theorems.{least-unique, result-misses}
+use Rattle.files.specs.Files.{graphOf, proposalOf}
+use Rattle.files.proofs.First.{if-passed}
+use Rattle.marks.specs.declared.Marks.{Marks}
+use Rattle.marks.specs.Marks.{bitOf, markAt, setBelow, placesBelow, placesOf}
+use Rattle.marks.proofs.Listed.{places-counted}
+use Rattle.delays.specs.Delays.{entry}
+use Rattle.verdicts.specs.Theorems.{Sentenced, cycle-made, order-lost, late, accepted}
+use Rattle.verdicts.proofs.Meanings.{result-latency}
+use Rattle.resync.specs.declared.ProposalVerdict.{ProposalVerdict}
+use Rattle.resync.specs.Calls.{outcome, tasksOf, delaysAfter, redundantOf, timetableAfter}
+use Rattle.resync.specs.Theorems.{AcceptedFile}
+use Rattle.resync.specs.Verdict.{VerdictAnswer, verdictOf, verdictRefusal, toldLate, countedMargin, margin, resultLatency}
+use Rattle.resync.proofs.Meanings.{figures-given, redundant-given, delays-given, timetable-given, figures-mean, figures-run, delays-mean, delays-small, redundant-mean, redundant-counted, redundant-listed, timetable-mean, timetable-runs}
+use Rattle.claims.specs.Demand2.{Demand2Met, delayIn, markBit, startIn}
+use Rattle.claims.specs.Demand3.{WellFormedFile}
+use Rattle.claims.proofs.Answer.{number-is, only-judged, all-passed, edges-formed, sentenced}
+
+-- ── Least delays ──
+
+-- a number that stands for the least delay, where no least delay is 65,535
+module _ (es : List Edge) (a b x : ℕ) (small : (d : ℕ) → Least es a b (some d) → d < 65535) where
+  delay-read : (o : Option ℕ) → Least es a b o → x ≡ entry o → (d : ℕ) → Least es a b (some d) ↔ ((x ≡ d) × (d < 65535))
+  unfolding entry
+  delay-read o least is d = (λ other. (is ∙ ap entry (least-unique es a b o (some d) least other), small d other), λ h. back o least is (h .0) (h .1))
+    where
+      back : (o : Option ℕ) → Least es a b o → x ≡ entry o → x ≡ d → d < 65535 → Least es a b (some d)
+      back (some y) least is same below = subst (λ (k : ℕ). Least es a b (some k)) (sym is ∙ same) least
+      back none least is same below = absurd (omega (arith, is, same, below))
+
+  none-read : (o : Option ℕ) → Least es a b o → x ≡ entry o → Least es a b none ↔ (x ≡ 65535)
+  unfolding entry
+  none-read o least is = (λ other. is ∙ ap entry (least-unique es a b o none least other), back o least is)
+    where
+      back : (o : Option ℕ) → Least es a b o → x ≡ entry o → x ≡ 65535 → Least es a b none
+      back (some y) least is same = absurd (omega (arith, is, same, small y least))
+      back none least is same = least
+
+-- ── Marks ──
+
+-- a mark is the bit 1 or not, and a bit that is not 1 is 0
+module _ (x : ℕ) where
+  bit-unset : (x % 2 ≡ 1 → ⊥) → x % 2 ≡ 0
+  bit-unset unset = omega (arith, unset)
+
+  counted-bit : counted (eqb (x % 2) 1) 1 ≡ x % 2
+  unfolding counted
+  counted-bit = go (decided (eqb-decides (x % 2) 1))
+    where
+      go : (x % 2 ≡ 1) ⊎ (x % 2 ≡ 1 → ⊥) → counted (eqb (x % 2) 1) 1 ≡ x % 2
+      go (inl set) = ap (λ (t : Bool). counted t 1) (decides-yes (eqb-decides (x % 2) 1) set) ∙ sym set
+      go (inr unset) = ap (λ (t : Bool). counted t 1) (decides-no (eqb-decides (x % 2) 1) unset) ∙ sym (bit-unset unset)
+
+bits-summed : (n : ℕ) (f : ℕ → ℕ) → sumOver n (λ i. eqb (f i % 2) 1) (λ i. 1) ≡ sumBelow n (λ i. f i % 2)
+unfolding sumOver sumBelow always counted
+bits-summed zero f = refl
+bits-summed (suc n) f = λ i. bits-summed n f i + counted-bit (f n) i
+
+marks-summed : (marks : Marks) → setBelow 256 (markAt marks) ≡ sumBelow 256 (markBit marks)
+unfolding setBelow markAt bitOf
+marks-summed marks = bits-summed 256 (λ i. getD (marks .words) (i / 64) 0 / 2 ^ (63 - i % 64))
+
+mark-decides : (s : List ℕ) → AcceptedFile s → (i : ℕ) → i < 256 → Decides (eqb (markBit (redundantOf s .marks) i) 1) (Redundant (graphOf s) i)
+unfolding markAt bitOf
+mark-decides s graph i below = redundant-mean s graph i below
+
+listed-places : (marked : ℕ → Bool) → take (placesOf marked .count) (placesOf marked .place) ≡ placesBelow 256 marked
+unfolding placesOf
+listed-places marked = take-at (placesBelow 256 marked) _ (setBelow 256 marked) (places-counted 256 marked)
+
+-- ── Starts ──
+
+-- starts that are those of the earliest run, for all tasks and turns, are an earliest run
+same-run :
+    (n : ℕ) (es : List Edge) (K : ℕ) (start same dur : Times) → Ends n es → Earliest n es K start dur →
+    ((v k : ℕ) → v < n → 1 ≤ k → k ≤ K → same v k ≡ start v k) → Earliest n es K same dur
+same-run n es K start same dur between run is =
+    record {
+      allowed = record { positive = run .allowed .positive; keeps = keeps };
+      least = λ other allowed v k below one most.
+          subst (λ (x : ℕ). x ≤ other v k) (sym (is v k below one most)) (run .least other allowed v k below one most);
+    }
+  where
+    keeps : (e : Edge) → e ∈ es → Keeps K same dur e
+    keeps e m k after most =
+        let back : 1 ≤ k - e .delay = omega (arith, after) in
+        let before : k - e .delay ≤ K = omega (arith, most) in
+        let one : 1 ≤ k = omega (arith, after) in
+        let held = run .allowed .keeps e m k after most in
+        let source = is (e .source) (k - e .delay) (between e m .0) back before in
+        let sink = is (e .sink) k (between e m .1) one most in
+        subst (λ (x : ℕ). x + dur (e .source) (k - e .delay) ≤ same (e .sink) k) (sym source)
+        (subst (λ (x : ℕ). start (e .source) (k - e .delay) + dur (e .source) (k - e .delay) ≤ x) (sym sink) held)
+
+-- ── Margins ──
+
+margin-within : (bound latency : ℕ) → latency ≤ bound → pos bound -ℤ pos latency ≡ pos (bound - latency)
+margin-within bound zero within = ap pos (omega arith)
+margin-within bound (suc l) within =
+    ap (λ (t : Bool). cond t (negsuc (suc l - suc bound)) (pos (bound - suc l))) (le-ltb bound (suc l) within)
+
+margin-beyond : (bound latency : ℕ) → bound < latency → pos bound -ℤ pos latency ≡ negsuc (latency - bound - 1)
+margin-beyond bound zero beyond = absurd (not-suc-le-zero beyond)
+margin-beyond bound (suc l) beyond =
+    ap (λ (t : Bool). cond t (negsuc (suc l - suc bound)) (pos (bound - suc l))) (lt-ltb bound (suc l) beyond) ∙ ap negsuc (omega arith)
+
+-- ── The demand ──
+
+module _ (s p : List ℕ) (r : ProposalVerdict) (answer : VerdictAnswer s p r) where
+  -- what is told of an accepted proposal
+  module _ (given : r .outcome .number ≡ 0) where
+    latency-told : r .latency ≡ resultLatency s p
+    unfolding verdictOf
+    latency-told =
+        ap (λ (x : ProposalVerdict). x .latency) (answer .settled) ∙
+        if-passed (verdictRefusal s p (r .outcome .place) .number) (resultLatency s p) 0 (sym (number-is s p r answer) ∙ given)
+
+    margin-told : r .margin ≡ pos (graphOf s .bound) -ℤ pos (r .latency)
+    unfolding verdictOf margin
+    margin-told =
+        ap (λ (x : ProposalVerdict). x .margin) (answer .settled) ∙
+        (if-passed (verdictRefusal s p (r .outcome .place) .number) (margin (graphOf s .bound) (resultLatency s p)) (pos 0)
+        (sym (number-is s p r answer) ∙ given) ∙
+        ap (λ (l : ℕ). pos (graphOf s .bound) -ℤ pos l) (sym latency-told))
+
+  -- what is told of a late one
+  module _ (is : r .outcome .number ≡ 15) where
+    late-told : r .outcome .latency ≡ resultLatency s p
+    unfolding verdictOf toldLate counted
+    late-told =
+        ap (λ (x : ProposalVerdict). x .outcome .latency) (answer .settled) ∙
+        ap (λ (n : ℕ). counted (eqb n 15) (resultLatency s p)) (sym (number-is s p r answer) ∙ is)
+
+    late-margin-told : r .outcome .margin ≡ pos (graphOf s .bound) -ℤ pos (r .outcome .latency)
+    unfolding verdictOf toldLate countedMargin margin
+    late-margin-told =
+        ap (λ (x : ProposalVerdict). x .outcome .margin) (answer .settled) ∙
+        (ap (λ (n : ℕ). countedMargin (eqb n 15) (margin (graphOf s .bound) (resultLatency s p))) (sym (number-is s p r answer) ∙ is) ∙
+        ap (λ (l : ℕ). pos (graphOf s .bound) -ℤ pos l) (sym late-told))
+
+  module _ (graph : AcceptedFile s) (formed : WellFormedFile s p) (off : NoneOnCycle (edges (result (graphOf s) (proposalOf p))) (proposalOf p)) where
+    latency-meant : Latency (edges (result (graphOf s) (proposalOf p))) (timeOf (graphOf s)) (graphOf s .output) (resultLatency s p)
+    unfolding resultLatency
+    latency-meant = result-latency (graphOf s) (proposalOf p) (graph .1) (edges-formed s p r answer graph formed) off
+
+    misses-iff : MissesBound (result (graphOf s) (proposalOf p)) ↔ (graphOf s .bound < resultLatency s p)
+    unfolding resultLatency
+    misses-iff =
+        result-misses (graphOf s) (proposalOf p)
+        (record {
+          sync-ends = graph .1 .formed .syncs-formed .ends;
+          proposed-ends = edges-formed s p r answer graph formed .ends;
+          no-zero-cycle = graph .1 .no-zero-cycle;
+          off-cycles = off;
+        })
+        (λ v l. graph .1 .formed .times v l .0) (graph .1 .formed .output-below)
+
+  accepted-told :
+      r .outcome .number ≡ 0 →
+      Latency (edges (result (graphOf s) (proposalOf p))) (timeOf (graphOf s)) (graphOf s .output) (resultLatency s p) × (resultLatency s p ≤ graphOf s .bound)
+  accepted-told given =
+      let h = all-passed s p r answer given in
+      go (h .0) (h .1) given (sentenced s p r answer (h .0) (h .1) (r .outcome .number) .0 refl)
+    where
+      go : AcceptedFile s → WellFormedFile s p → {n : ℕ} → n ≡ 0 → Sentenced (graphOf s) (proposalOf p) n →
+          Latency (edges (result (graphOf s) (proposalOf p))) (timeOf (graphOf s)) (graphOf s .output) (resultLatency s p) × (resultLatency s p ≤ graphOf s .bound)
+      go graph formed is (cycle-made because e m c) = absurd (omega (arith, is, because))
+      go graph formed is (order-lost because off breaks) = absurd (omega (arith, is, because))
+      go graph formed is (late because off runs misses) = absurd (omega (arith, is, because))
+      go graph formed is (accepted because off runs meets) =
+          let in-time : graphOf s .bound < resultLatency s p → ⊥ = λ high. meets (misses-iff graph formed off .1 high) in
+          (latency-meant graph formed off, omega (arith, in-time))
+
+  late-meant :
+      r .outcome .number ≡ 15 →
+      Latency (edges (result (graphOf s) (proposalOf p))) (timeOf (graphOf s)) (graphOf s .output) (resultLatency s p) × (graphOf s .bound < resultLatency s p)
+  late-meant fifteen =
+      let high : 13 ≤ r .outcome .number = omega (arith, fifteen) in
+      let h = only-judged s p r answer high in
+      go (h .0) (h .1) fifteen (sentenced s p r answer (h .0) (h .1) (r .outcome .number) .0 refl)
+    where
+      go : AcceptedFile s → WellFormedFile s p → {n : ℕ} → n ≡ 15 → Sentenced (graphOf s) (proposalOf p) n →
+          Latency (edges (result (graphOf s) (proposalOf p))) (timeOf (graphOf s)) (graphOf s .output) (resultLatency s p) × (graphOf s .bound < resultLatency s p)
+      go graph formed is (cycle-made because e m c) = absurd (omega (arith, is, because))
+      go graph formed is (order-lost because off breaks) = absurd (omega (arith, is, because))
+      go graph formed is (late because off runs misses) = (latency-meant graph formed off, misses-iff graph formed off .0 misses)
+      go graph formed is (accepted because off runs meets) = absurd (omega (arith, is, because))
+
+pub demand2-met : Demand2Met
+unfolding outcome tasksOf
+demand2-met s p turns table starts r answer =
+    record {
+      delays-given = delays-given s (length table);
+      delay-least = λ given a b l k.
+          let graph = delays-given s (length table) .0 given .0 in
+          let h = delays-mean s table given a b l k in
+          delay-read (edges (graphOf s)) a b (delayIn (tasksOf s) (delaysAfter s table) a b) (delays-small s graph a b) (h .0) (h .1) (h .2);
+      delay-none = λ given a b l k.
+          let graph = delays-given s (length table) .0 given .0 in
+          let h = delays-mean s table given a b l k in
+          none-read (edges (graphOf s)) a b (delayIn (tasksOf s) (delaysAfter s table) a b) (delays-small s graph a b) (h .0) (h .1) (h .2);
+      redundant-given = redundant-given s;
+      marked = λ given i l.
+          let d = mark-decides s (redundant-given s .0 given) i l in
+          (λ set. d .if-true (eq→eqb set), λ redundant. eqb→eq (markBit (redundantOf s .marks) i) 1 (decides-true d redundant));
+      not-marked = λ given i l.
+          let d = mark-decides s (redundant-given s .0 given) i l in (
+            λ unset redundant.
+                let set : markBit (redundantOf s .marks) i ≡ 1 = eqb→eq (markBit (redundantOf s .marks) i) 1 (decides-true d redundant) in
+                omega (arith, set, unset),
+            λ needed. bit-unset _ (λ set. needed (d .if-true (eq→eqb set))),
+          );
+      marks-counted = redundant-counted s ∙ marks-summed (redundantOf s .marks);
+      places-listed = λ given place.
+          subst (λ (xs : List ℕ). List·Memᴰ place xs ↔ ((1 ≤ place) × Redundant (graphOf s) (place - 1))) (sym (listed-places (markAt (redundantOf s .marks))))
+          (redundant-listed s (redundant-given s .0 given) place);
+      figures-given = figures-given s;
+      tasks-counted = λ given. figures-mean s (figures-given s .0 given) .0;
+      edges-counted = λ given. figures-mean s (figures-given s .0 given) .1;
+      latency = λ given. figures-mean s (figures-given s .0 given) .2;
+      latency-run = λ given. figures-run s (figures-given s .0 given);
+      timetable-given = timetable-given s turns (length starts);
+      timetable-earliest = λ given.
+          let graph = timetable-given s turns (length starts) .0 given .2 in
+          let run = timetable-runs s turns graph in
+          same-run (tasksOf s) (edges (graphOf s)) turns (run .0) (startIn (tasksOf s) (timetableAfter s turns starts)) (estimates (timeOf (graphOf s)))
+          (graph-ends (graphOf s) (graph .1 .formed .syncs-formed .ends)) (run .1) (timetable-mean s turns starts given (run .0) (run .1));
+      result-latency = λ given. subst (Latency _ _ _) (sym (latency-told s p r answer given)) (accepted-told s p r answer given .0);
+      margin = margin-told s p r answer;
+      in-time = λ given.
+          let low = subst (λ (l : ℕ). l ≤ graphOf s .bound) (sym (latency-told s p r answer given)) (accepted-told s p r answer given .1) in
+          (low, margin-told s p r answer given ∙ margin-within (graphOf s .bound) (r .latency) low);
+      late-latency = λ is. subst (Latency _ _ _) (sym (late-told s p r answer is)) (late-meant s p r answer is .0);
+      late-margin = late-margin-told s p r answer;
+      late-by = λ is.
+          let high = subst (λ (l : ℕ). graphOf s .bound < l) (sym (late-told s p r answer is)) (late-meant s p r answer is .1) in
+          (high, late-margin-told s p r answer is ∙ margin-beyond (graphOf s .bound) (r .outcome .latency) high);
+    }

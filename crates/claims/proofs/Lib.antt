@@ -1,0 +1,10 @@
+-- The proofs of the demands.
+pub mod Sequences
+pub mod Conditions
+pub mod Followed
+pub mod Verdicts
+pub mod Answer
+pub mod Demand1
+pub mod Demand2
+pub mod Demand3
+pub mod Cases
