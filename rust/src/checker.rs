@@ -11,7 +11,7 @@ pub struct Task {
 }
 
 /// An edge from task `source` to task `sink`.
-#[derive(Clone, Copy, Debug, PartialEq, Eq)]
+#[derive(Clone, Copy, Debug, PartialEq, Eq, PartialOrd, Ord)]
 pub struct Edge {
     pub source: usize,
     pub sink: usize,
@@ -367,31 +367,13 @@ fn bytes(mut bits: Vec<bool>, filling: usize) -> Vec<u8> {
 #[cfg(test)]
 mod tests {
     use super::*;
+    use crate::example::{desk, edge};
 
     const DESK: [u8; 25] = [
         0x08, 0x40, 0x18, 0x01, 0x80, 0x00, 0x0C, 0x00, 0x00, 0x20, 0x00, 0x03, 0x10, 0x00, 0x11,
         0x00, 0x04, 0x00, 0x20, 0x00, 0x43, 0x00, 0x00, 0x30, 0x00,
     ];
     const PROPOSAL: [u8; 5] = [0x08, 0x04, 0x04, 0x20, 0x00];
-
-    fn edge(source: usize, sink: usize, delay: usize) -> Edge {
-        Edge {
-            source,
-            sink,
-            delay,
-        }
-    }
-
-    fn desk() -> Graph {
-        let task = |processor, time| Task { processor, time };
-        Graph {
-            tasks: vec![task(0, 2), task(0, 3), task(1, 1), task(1, 4)],
-            edges: vec![edge(0, 2, 0), edge(1, 3, 0), edge(0, 3, 0)],
-            input: 0,
-            output: 3,
-            bound: 12,
-        }
-    }
 
     fn graph_refusal(fields: &GraphFields) -> (usize, usize) {
         let refusal = read_graph(&write_graph(fields)).expect_err("nothing was refused");

@@ -91,6 +91,17 @@ pub struct Places {
     pub place: [u32; 256],
 }
 
+/// The verdict on a proposal: latency and margin of its result if it is accepted. If it is refused, everything but the outcome
+/// is 0.
+#[repr(C)]
+#[derive(Clone, Copy, Debug, PartialEq, Eq)]
+pub struct ProposalVerdict {
+    pub outcome: Outcome,
+    pub latency: u32,
+    /// The bound less the latency.
+    pub margin: i32,
+}
+
 // The records have no gaps: as many bytes as their fields, but for the set's last four, which align its words.
 const _: () = assert!(size_of::<GraphReading>() == 7 * 4 + 64 + 2 * 64 + 3 * 320);
 const _: () = assert!(size_of::<ProposalReading>() == 3 * 4 + 3 * 256);
@@ -99,6 +110,7 @@ const _: () = assert!(size_of::<GraphFigures>() == 4 * 4 + 3 * 4);
 const _: () = assert!(size_of::<Marks>() == 4 * 8);
 const _: () = assert!(size_of::<RedundantSet>() == 4 * 4 + 4 * 8 + 4 + 4);
 const _: () = assert!(size_of::<Places>() == 4 + 256 * 4);
+const _: () = assert!(size_of::<ProposalVerdict>() == 4 * 4 + 2 * 4);
 
 extern "C" {
     fn resync_read_graph(file: *const u8, length: usize) -> GraphReading;
@@ -115,6 +127,12 @@ extern "C" {
         starts: *mut u32,
         room: usize,
     ) -> Outcome;
+    fn resync_verdict(
+        graph: *const u8,
+        graph_length: usize,
+        proposal: *const u8,
+        proposal_length: usize,
+    ) -> ProposalVerdict;
 }
 
 /// Reads a graph file and judges it as far as refusal 8.
@@ -167,6 +185,19 @@ pub fn timetable(file: &[u8], turns: usize, starts: &mut [u32]) -> Outcome {
             turns,
             starts.as_mut_ptr(),
             starts.len(),
+        )
+    }
+}
+
+/// The verdict on a proposal file beside a graph file.
+pub fn verdict(graph: &[u8], proposal: &[u8]) -> ProposalVerdict {
+    // SAFETY: pointers and lengths are those of two slices, which are only read; the call keeps none.
+    unsafe {
+        resync_verdict(
+            graph.as_ptr(),
+            graph.len(),
+            proposal.as_ptr(),
+            proposal.len(),
         )
     }
 }

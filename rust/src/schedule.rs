@@ -268,14 +268,7 @@ pub fn places(words: [u64; 4]) -> Vec<usize> {
 mod tests {
     use super::*;
     use crate::checker::Task;
-
-    fn edge(source: usize, sink: usize, delay: usize) -> Edge {
-        Edge {
-            source,
-            sink,
-            delay,
-        }
-    }
+    use crate::example::{desk, edge};
 
     /// Tasks as pairs of processor and time; the bound is the largest.
     fn graph(tasks: &[(usize, usize)], edges: &[Edge], input: usize, output: usize) -> Graph {
@@ -289,18 +282,6 @@ mod tests {
             output,
             bound: (1 << 23) - 1,
         }
-    }
-
-    /// Document 01's example desk.
-    fn desk() -> Graph {
-        let mut desk = graph(
-            &[(0, 2), (0, 3), (1, 1), (1, 4)],
-            &[edge(0, 2, 0), edge(1, 3, 0), edge(0, 3, 0)],
-            0,
-            3,
-        );
-        desk.bound = 12;
-        desk
     }
 
     /// Two tasks that wait for one another, the first at most two turns ahead.

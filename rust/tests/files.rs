@@ -4,8 +4,9 @@
 
 mod generator;
 
-use generator::damage::{flip, BYTE_DAMAGES, GRAPH_DAMAGES, PROPOSAL_DAMAGES};
-use generator::desk::{edge, flipped_desks, shown, DESK};
+use generator::damage::{BYTE_DAMAGES, GRAPH_DAMAGES, PROPOSAL_DAMAGES};
+use generator::desk::{edge, flipped, shown, small, DESK, PROPOSAL};
+use generator::faults::{every_set_of_faults, Fault};
 use generator::Generator;
 use resync::checker::{self, Edge, Graph, GraphFields, ProposalFields, Task};
 use resync::checker::{write_graph, write_proposal};
@@ -27,8 +28,6 @@ const TASK_COUNTS: [usize; 12] = [
     1 << 32,
     usize::MAX,
 ];
-
-const PROPOSAL: [u8; 5] = [0x08, 0x04, 0x04, 0x20, 0x00];
 
 // ---- Comparing ----
 
@@ -243,7 +242,7 @@ fn many_graphs() {
         tally.graph("several damages", &file);
     }
 
-    for file in flipped_desks() {
+    for file in flipped(DESK) {
         tally.graph("example desk, every one or two bits flipped", &file);
     }
 
@@ -337,17 +336,10 @@ fn many_proposals() {
         tally.proposal("several damages", &file, tasks);
     }
 
-    for one in 0..8 * PROPOSAL.len() {
-        for other in one..8 * PROPOSAL.len() {
-            let mut file = PROPOSAL;
-            flip(&mut file, one);
-            if other != one {
-                flip(&mut file, other);
-            }
-            for tasks in TASK_COUNTS {
-                let case = "example proposal, every one or two bits flipped";
-                tally.proposal(case, &file, tasks);
-            }
+    for file in flipped(PROPOSAL) {
+        for tasks in TASK_COUNTS {
+            let case = "example proposal, every one or two bits flipped";
+            tally.proposal(case, &file, tasks);
         }
     }
 
@@ -369,25 +361,6 @@ fn many_proposals() {
 }
 
 // ---- Named files, with the answers of document 01 ----
-
-/// Tasks 0 to 4 on processors 0, 0, 1, 1, 2 and six edges: 11 records, so the last byte has filling bits.
-fn small() -> GraphFields {
-    let task = |processor, time| Task { processor, time };
-    GraphFields::of(&Graph {
-        tasks: vec![task(0, 5), task(0, 1), task(1, 2), task(1, 7), task(2, 3)],
-        edges: vec![
-            edge(0, 2, 0),
-            edge(1, 3, 0),
-            edge(2, 4, 1),
-            edge(4, 0, 2),
-            edge(0, 4, 0),
-            edge(3, 1, 255),
-        ],
-        input: 0,
-        output: 4,
-        bound: 100,
-    })
-}
 
 /// The small graph with a change.
 fn changed(change: impl Fn(&mut GraphFields)) -> Vec<u8> {
@@ -448,7 +421,7 @@ fn example_proposal() {
 #[test]
 fn processor_edges_of_mixed_processors() {
     let file = changed(|f| {
-        let processors = [9, 15, 9, 0, 9];
+        let processors = [9, 15, 9, 0, 9, 9];
         for (task, processor) in f.tasks.iter_mut().zip(processors) {
             task.processor = processor;
         }
@@ -457,9 +430,9 @@ fn processor_edges_of_mixed_processors() {
     });
     let reading = compare_graph("mixed processors", &file);
     assert_eq!(reading.refusal.number, 0);
-    assert_eq!(reading.source[..7], [0, 1, 2, 3, 4, 4, 0]);
-    assert_eq!(reading.sink[..7], [2, 1, 4, 3, 0, 3, 0]);
-    assert_eq!(reading.delay[..7], [0, 1, 0, 1, 1, 200, 0]);
+    assert_eq!(reading.source[..8], [0, 1, 2, 3, 4, 5, 4, 0]);
+    assert_eq!(reading.sink[..8], [2, 1, 4, 3, 5, 0, 3, 0]);
+    assert_eq!(reading.delay[..8], [0, 1, 0, 1, 0, 1, 200, 0]);
 }
 
 #[test]
@@ -522,9 +495,9 @@ fn bounds_of_graphs() {
     }
 
     // Header numbers.
-    graph_gets("input last", &changed(|f| f.input = 4), 0, 0);
-    graph_gets("input past", &changed(|f| f.input = 5), 6, 0);
-    graph_gets("output past", &changed(|f| f.output = 5), 6, 0);
+    graph_gets("input last", &changed(|f| f.input = 5), 0, 0);
+    graph_gets("input past", &changed(|f| f.input = 6), 6, 0);
+    graph_gets("output past", &changed(|f| f.output = 6), 6, 0);
     graph_gets("output far", &changed(|f| f.output = 63), 6, 0);
     let mut fields = large(64, 1);
     (fields.input, fields.output) = (63, 63);
@@ -537,7 +510,7 @@ fn bounds_of_graphs() {
     assert_eq!(compare_graph("largest bound", &file).bound, 8_388_607);
 
     // Times.
-    for task in 0..5 {
+    for task in 0..6 {
         let place = task as u32;
         graph_gets("time 0", &changed(|f| f.tasks[task].time = 0), 5, place);
         graph_gets("time 1", &changed(|f| f.tasks[task].time = 1), 0, 0);
@@ -551,9 +524,9 @@ fn bounds_of_graphs() {
     graph_gets("two times 0", &file, 5, 2);
 
     // Edges.
-    for at in 0..6 {
+    for at in 0..7 {
         let place = at as u32 + 1;
-        for end in [5, 6, 63] {
+        for end in [6, 7, 63] {
             graph_gets("source", &changed(|f| f.edges[at].source = end), 6, place);
             graph_gets("sink", &changed(|f| f.edges[at].sink = end), 6, place);
         }
@@ -598,7 +571,7 @@ fn bounds_of_graphs() {
 
     // What 9 to 12 are about is not judged here.
     graph_gets("cycle of delay 0", &with(&[a, edge(2, 0, 0)]), 0, 0);
-    graph_gets("input is output", &changed(|f| f.input = 4), 0, 0);
+    graph_gets("input is output", &changed(|f| f.input = f.output), 0, 0);
 }
 
 #[test]
@@ -683,47 +656,11 @@ fn bounds_of_proposals() {
 
 // ---- The sequence of refusals ----
 
-/// A fault: its name, the number and place it gets, and what makes it, in the fields and then in the bytes.
-type Fault<Fields> = (&'static str, (u32, u32), fn(&mut Fields), fn(&mut Vec<u8>));
-
-/// Makes every set of faults, so every pair too: the answer must be that of the first, in the sequence given.
-fn every_set_of_faults<Fields: Clone>(
-    right: &Fields,
-    faults: &[Fault<Fields>],
-    write: fn(&Fields) -> Vec<u8>,
-    gets: impl Fn(&str, &[u8], u32, u32),
-) {
-    for set in 0..1 << faults.len() {
-        let chosen: Vec<&Fault<Fields>> = faults
-            .iter()
-            .enumerate()
-            .filter(|(at, _)| (set >> at) & 1 == 1)
-            .map(|(_, fault)| fault)
-            .collect();
-        let names: Vec<&str> = chosen.iter().map(|fault| fault.0).collect();
-        if names.contains(&"short") && names.contains(&"long") {
-            continue;
-        }
-
-        let mut fields = right.clone();
-        for fault in &chosen {
-            fault.2(&mut fields);
-        }
-        let mut file = write(&fields);
-        // The last first, so that the shortest cut is made after the others.
-        for fault in chosen.iter().rev() {
-            fault.3(&mut file);
-        }
-        let (number, place) = chosen.first().map_or((0, 0), |fault| fault.1);
-        gets(&format!("faults: {names:?}"), &file, number, place);
-    }
-}
-
 #[test]
 fn sequence_of_graph_refusals() {
     let mut right = small();
     right.edges.extend([edge(3, 4, 3), edge(4, 3, 3)]);
-    right.edge_count = 8;
+    right.edge_count = 9;
     let faults: [Fault<GraphFields>; 16] = [
         ("no header", (1, 0), |_| (), |b| b.truncate(6)),
         ("version", (2, 0), |f| f.version = 3, |_| ()),
@@ -732,22 +669,25 @@ fn sequence_of_graph_refusals() {
         ("short", (1, 0), |_| (), |b| b.truncate(b.len() - 1)),
         ("long", (4, 0), |_| (), |b| b.extend([0; 2])),
         ("filling", (4, 0), |f| f.filling = 2, |_| ()),
-        ("input", (6, 0), |f| f.input = 5, |_| ()),
+        ("input", (6, 0), |f| f.input = 6, |_| ()),
         ("task 1", (5, 1), |f| f.tasks[1].time = 0, |_| ()),
         ("task 3", (5, 3), |f| f.tasks[3].time = 0, |_| ()),
         ("edge 1", (7, 1), |f| f.edges[0].sink = 1, |_| ()),
-        ("edge 2", (6, 2), |f| f.edges[1].source = 5, |_| ()),
-        ("edge 3", (7, 3), |f| f.edges[2].sink = 3, |_| ()),
+        ("edge 2", (6, 2), |f| f.edges[1].source = 6, |_| ()),
+        ("edge 3", (7, 3), |f| f.edges[2].sink = 4, |_| ()),
         ("edge 4", (6, 4), |f| f.edges[3].sink = 40, |_| ()),
         ("edge 7 as 6", (8, 7), |f| f.edges[6] = f.edges[5], |_| ()),
         ("edge 8 as 5", (8, 8), |f| f.edges[7] = f.edges[4], |_| ()),
     ];
-    every_set_of_faults(&right, &faults, write_graph, graph_gets);
+    for faulty in every_set_of_faults(&right, &faults, write_graph) {
+        let (number, place) = faulty.first();
+        graph_gets(&faulty.name, &faulty.file, number as u32, place as u32);
+    }
 
     // Equal edges before an edge at fault.
     let mut fields = small();
     fields.edges[1] = fields.edges[0];
-    fields.edges[5].sink = 5;
+    fields.edges[5].sink = 6;
     graph_gets("8 at 2, 6 at 6", &write_graph(&fields), 6, 6);
     fields.edges[5].sink = 3;
     graph_gets("8 at 2, 7 at 6", &write_graph(&fields), 7, 6);
@@ -777,10 +717,8 @@ fn sequence_of_proposal_refusals() {
         ("edge 3 as 1", (8, 3), |f| f.edges[2] = f.edges[0], |_| ()),
         ("edge 4 as 1", (8, 4), |f| f.edges[3] = f.edges[0], |_| ()),
     ];
-    every_set_of_faults(
-        &right,
-        &faults,
-        write_proposal,
-        |case, file, number, place| proposal_gets(case, file, 5, number, place),
-    );
+    for faulty in every_set_of_faults(&right, &faults, write_proposal) {
+        let (number, place) = faulty.first();
+        proposal_gets(&faulty.name, &faulty.file, 5, number as u32, place as u32);
+    }
 }

@@ -6,8 +6,9 @@
 mod generator;
 
 use generator::damage::{BYTE_DAMAGES, GRAPH_DAMAGES};
-use generator::desk::{edge, flipped_desks, shown, DESK};
+use generator::desk::{edge, flipped, shown, small, DESK};
 use generator::desks::FAULTS;
+use generator::faults::{every_set_of_faults, Fault};
 use generator::Generator;
 use resync::checker::{self, write_graph, Edge, Graph, GraphFields, Task};
 use resync::proved::{self, GraphFigures, Marks, Outcome, Places, RedundantSet};
@@ -454,7 +455,7 @@ fn many_damaged_files() {
         tally.every_call(g, "several damages", &file, &turns);
     }
 
-    for file in flipped_desks() {
+    for file in flipped(DESK) {
         let turns = turns(g);
         let name = "example desk, every one or two bits flipped";
         tally.every_call(g, name, &file, &turns);
@@ -644,34 +645,6 @@ fn lengths_of_lists_and_numbers_of_turns() {
     }
 }
 
-/// Tasks 0, 1 on processor 0; 2, 3 on 1; 4 on 2; 5 on 3; seven edges: 13 records, so the last byte has filling bits.
-/// The input is 0. Only 1, 2 and 3 are joined to it by paths of delay 0.
-fn small() -> GraphFields {
-    let task = |processor, time| Task { processor, time };
-    GraphFields::of(&Graph {
-        tasks: vec![
-            task(0, 5),
-            task(0, 1),
-            task(1, 2),
-            task(1, 7),
-            task(2, 3),
-            task(3, 4),
-        ],
-        edges: vec![
-            edge(0, 2, 0),
-            edge(1, 3, 0),
-            edge(4, 5, 0),
-            edge(5, 4, 1),
-            edge(4, 0, 2),
-            edge(2, 4, 3),
-            edge(5, 1, 255),
-        ],
-        input: 0,
-        output: 3,
-        bound: 14,
-    })
-}
-
 #[test]
 fn bounds_of_the_schedule_refusals() {
     let with = |name: &str, change: fn(&mut GraphFields), number: usize| {
@@ -744,20 +717,12 @@ fn bounds_of_the_schedule_refusals() {
     );
 }
 
-/// A fault: its name, the number and place it gets, and what makes it, in the fields and then in the bytes. Those of the call
-/// itself, 16 and 17, are made in the test.
-type Fault = (
-    &'static str,
-    (usize, usize),
-    fn(&mut GraphFields),
-    fn(&mut Vec<u8>),
-);
-
-/// Makes every set of faults: the answer must be that of the first, in document 01's sequence. Of the file's own refusals one fault
-/// each stands here; `files.rs` has all of them, with their sequence among themselves.
+/// Every set of faults: the answer must be that of the first, in document 01's sequence. Of the file's own refusals one fault each
+/// stands here; `files.rs` has all of them, with their sequence among themselves. Those of the call itself, 16 and 17, are made
+/// below.
 #[test]
 fn sequence_of_refusals() {
-    let faults: [Fault; 16] = [
+    let faults: [Fault<GraphFields>; 16] = [
         ("turns", (17, 0), |_| (), |_| ()),
         ("no header", (1, 0), |_| (), |b| b.truncate(6)),
         ("version", (2, 0), |f| f.version = 2, |_| ()),
@@ -786,25 +751,13 @@ fn sequence_of_refusals() {
         ("list", (16, 0), |_| (), |_| ()),
     ];
     let mut first = [0; 18];
-    for set in 0..1 << faults.len() {
-        let chosen: Vec<&Fault> = faults
-            .iter()
-            .enumerate()
-            .filter(|(at, _)| (set >> at) & 1 == 1)
-            .map(|(_, fault)| fault)
-            .collect();
-        let names: Vec<&str> = chosen.iter().map(|fault| fault.0).collect();
-        let name = format!("faults: {names:?}");
-
-        let mut fields = small();
-        chosen.iter().for_each(|fault| fault.2(&mut fields));
-        let mut file = write_graph(&fields);
-        chosen.iter().rev().for_each(|fault| fault.3(&mut file));
-        let case = Case::new(&name, &file);
+    for faulty in every_set_of_faults(&small(), &faults, write_graph) {
+        let name = &faulty.name;
+        let case = Case::new(name, &faulty.file);
         // What a call must answer that does not give these numbers.
         let without = |numbers: &[usize]| {
-            let mut left = chosen.iter().filter(|f| !numbers.contains(&f.1 .0));
-            let (number, place) = left.next().map_or((0, 0), |fault| fault.1);
+            let mut left = faulty.refusals.iter().filter(|r| !numbers.contains(&r.0));
+            let (number, place) = left.next().copied().unwrap_or((0, 0));
             outcome(number, place)
         };
 
@@ -812,10 +765,14 @@ fn sequence_of_refusals() {
         assert_eq!(figures.outcome, without(&[16, 17]), "{name}");
         let redundant = case.compare_redundant();
         assert_eq!(redundant.outcome, without(&[16, 17]), "{name}");
-        let short = names.contains(&"list");
+        let short = faulty.refusals.contains(&(16, 0));
         let least_delays = case.compare_least_delays(if short { 35 } else { 36 });
         assert_eq!(least_delays, without(&[17]), "{name}");
-        let turns = if names.contains(&"turns") { 65 } else { 3 };
+        let turns = if faulty.refusals.contains(&(17, 0)) {
+            65
+        } else {
+            3
+        };
         let starts = case.starts(turns);
         let needed = 6 * turns;
         let room = if short { needed - 1 } else { needed };

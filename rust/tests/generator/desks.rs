@@ -4,7 +4,7 @@ use super::Generator;
 use resync::checker::{Edge, Graph, Task};
 use resync::schedule;
 
-const LARGEST_BOUND: usize = (1 << 23) - 1;
+pub const LARGEST_BOUND: usize = (1 << 23) - 1;
 
 /// What edges of a graph may be.
 struct Manner {

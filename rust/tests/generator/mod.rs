@@ -6,6 +6,8 @@
 pub mod damage;
 pub mod desk;
 pub mod desks;
+pub mod faults;
+pub mod proposals;
 
 use resync::checker::{Edge, Graph, Task};
 
