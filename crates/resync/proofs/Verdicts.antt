@@ -23,7 +23,8 @@ use Rattle.readings.proofs.Accepted.{proposal-formed}
 use Rattle.schedule.specs.declared.Acceptance.{Acceptance}
 use Rattle.schedule.specs.Schedule.{acceptanceRefusal, acceptance}
 use Rattle.verdicts.specs.declared.Judgement.{Judgement}
-use Rattle.verdicts.specs.Verdicts.{timed, judgedRefusal, judgement, OpenPlace, Judgeable}
+use Rattle.verdicts.specs.Verdicts.{timed, judgedRefusal, judgement, OpenPlace, HeldProposal, Judgeable}
+use Rattle.verdicts.proofs.Judging.{working-held}
 use Rattle.verdicts.proofs.Sizes.{told-latency-small}
 use Rattle.resync.specs.declared.Outcome.{Outcome}
 use Rattle.resync.specs.declared.ProposalVerdict.{ProposalVerdict}
@@ -108,7 +109,9 @@ module _ (s p : List ℕ) {a : Acceptance} (is : a ≡ acceptance s) (passed : a
           accepted = file .1;
           formed = proposal-formed (count (graphOf s)) p proposal-passed;
           graph-is = reading-given s is ∙ graph-given s (file .0);
-          proposal-is = reading-is ∙ proposal-given (tasksOf s) p proposal-passed;
+          proposal-holds =
+              subst (λ (x : ProposalReading). HeldProposal x (proposalOf p)) (sym (reading-is ∙ proposal-given (tasksOf s) p proposal-passed))
+              (working-held (proposalOf p) (proposal-formed (count (graphOf s)) p proposal-passed .few));
         }
 
     -- what the margin is made of is small

@@ -1,4 +1,4 @@
-// The calls on a graph: figures, least delays, redundant edges, timetable. Each takes a graph file's bytes, whatever they are.
+// The calls on a graph, and the verdict on a proposal. Each takes files' bytes, whatever they are.
 mod calls;
 mod proposals;
 

@@ -37,7 +37,7 @@ use Rattle.schedule.proofs.Fronts.{front, frontEdges, Fronts, working-fronts, W
 use Rattle.results.specs.declared.ResultEdges.{ResultEdges}
 use Rattle.results.specs.Results.{resultOf, HeldResult}
 use Rattle.results.proofs.Results.{result-edges-are}
-use Rattle.verdicts.specs.Verdicts.{someOnCycle, lostRefusal, judgedRefusal, timed, judgement, OpenPlace, Judgeable}
+use Rattle.verdicts.specs.Verdicts.{someOnCycle, lostRefusal, judgedRefusal, timed, judgement, OpenPlace, HeldProposal, Judgeable}
 use Rattle.verdicts.specs.Tables.{TableOf, FoundCyclic, nowhere, somewhere, lostFrom}
 use Rattle.verdicts.specs.Theorems.{FirstLost}
 use Rattle.verdicts.proofs.Chain.{stops-13, stops-14, stops-15, passed, some-found, none-found}
@@ -67,24 +67,37 @@ pub record ProposedFronts (proposed : List Edge) (p : ProposalReading) : Type 0 
 lent : (P : List ℕ → Type 0) (n : ℕ) (xs : List ℕ) → P (take n xs) → P (front n xs)
 lent P n xs h = subst (λ (k : ℕ). P (take k xs)) (sym (sub-zero n)) h
 
-working-proposed : (proposed : List Edge) → length proposed ≤ 256 → ProposedFronts proposed (workingProposal proposed)
-unfolding workingProposal
-working-proposed proposed few =
-    let holds : HeldEdges proposed = working-edges-hold proposed few in
-    let sources = lent (SourcesOf proposed) (length proposed) (workingProposal proposed .source) (holds .sources) in
-    let sinks = lent (SinksOf proposed) (length proposed) (workingProposal proposed .sink) (holds .sinks) in
-    let delays = lent (DelaysOf proposed) (length proposed) (workingProposal proposed .delay) (holds .delays) in
+fronts-held : {proposal : ProposalReading} {proposed : List Edge} → HeldProposal proposal proposed → ProposedFronts proposed proposal
+fronts-held {proposal} {proposed} holds =
+    let sources = lent (SourcesOf proposed) (proposal .edges) (proposal .source) (holds .sources) in
+    let sinks = lent (SinksOf proposed) (proposal .edges) (proposal .sink) (holds .sinks) in
+    let delays = lent (DelaysOf proposed) (proposal .edges) (proposal .delay) (holds .delays) in
     record {
-      edges-are = refl;
-      source-room = length-tabulate 256 (λ i. edgeIn proposed i .source);
-      sink-room = length-tabulate 256 (λ i. edgeIn proposed i .sink);
-      delay-room = length-tabulate 256 (λ i. edgeIn proposed i .delay);
+      edges-are = holds .as-many;
+      source-room = holds .source-room;
+      sink-room = holds .sink-room;
+      delay-room = holds .delay-room;
       held =
-          edges-of-columns (front (length proposed) (workingProposal proposed .source)) (front (length proposed) (workingProposal proposed .sink))
-          (front (length proposed) (workingProposal proposed .delay)) proposed sources sinks delays;
+          edges-of-columns (front (proposal .edges) (proposal .source)) (front (proposal .edges) (proposal .sink))
+          (front (proposal .edges) (proposal .delay)) proposed sources sinks delays;
       as-many = sources .as-many;
       as-many-sinks = sinks .as-many ∙ sym (sources .as-many);
       as-many-delays = delays .as-many ∙ sym (sources .as-many);
+    }
+
+-- what a file of proposed edges is read into
+pub working-held : (proposed : List Edge) → length proposed ≤ 256 → HeldProposal (workingProposal proposed) proposed
+unfolding workingProposal
+working-held proposed few =
+    let holds : HeldEdges proposed = working-edges-hold proposed few in
+    record {
+      as-many = refl;
+      source-room = length-tabulate 256 (λ i. edgeIn proposed i .source);
+      sink-room = length-tabulate 256 (λ i. edgeIn proposed i .sink);
+      delay-room = length-tabulate 256 (λ i. edgeIn proposed i .delay);
+      sources = holds .sources;
+      sinks = holds .sinks;
+      delays = holds .delays;
     }
 
 -- how long the front of a list is
@@ -109,8 +122,7 @@ module _ {graph : GraphReading} {proposal : ProposalReading} {g : Graph} {propos
       subst (λ (x : GraphReading). Fronts g x) (sym (given .graph-is)) (working-fronts g (well .at-most-64) (well .syncs-formed .few))
 
   pub proposed-fronts : ProposedFronts proposed proposal
-  proposed-fronts =
-      subst (λ (x : ProposalReading). ProposedFronts proposed x) (sym (given .proposal-is)) (working-proposed proposed (given .formed .few))
+  proposed-fronts = fronts-held (given .proposal-holds)
 
   pub graph-within : Within graph
   graph-within = fronts-within graph-fronts well

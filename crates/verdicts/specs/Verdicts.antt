@@ -4,7 +4,7 @@ use mathlib.Core.Bool.{Bool, not, _||_}
 use mathlib.Core.List.{List, [], _∷_}
 use Prim.Native.Nat.{ℕ, suc, _<_}
 use lib.Dec.{eqb, ltb}
-use lib.ListN.{length}
+use lib.ListN.{length, take}
 use Rattle.model.specs.Lists.{anyBelow, counted}
 use Rattle.model.specs.Tasks.{Edge}
 use Rattle.model.specs.Graph.{Graph, WellFormedEdges, count, edges}
@@ -14,9 +14,10 @@ use Rattle.model.specs.Proposals.{result, AcceptedGraph}
 use Rattle.files.specs.declared.Refusal.{Refusal}
 use Rattle.files.specs.Refusals.{refuse, first}
 use Rattle.files.specs.Files.{edgeIn, firstOf}
+use Rattle.records.specs.Columns.{SourcesOf, SinksOf, DelaysOf}
 use Rattle.readings.specs.declared.GraphReading.{GraphReading}
 use Rattle.readings.specs.declared.ProposalReading.{ProposalReading}
-use Rattle.readings.specs.Working.{workingGraph, workingProposal}
+use Rattle.readings.specs.Working.{workingGraph}
 use Rattle.verdicts.specs.declared.Judgement.{Judgement}
 
 -- "13: a proposed edge on a cycle": of the result
@@ -54,9 +55,21 @@ pub record OpenPlace (g : Graph) (proposed : List Edge) (place : ℕ) : Type 0 w
   pub present : before < length proposed
   pub on-cycle : OnCycle (edges (result g proposed)) (edgeIn proposed before)
 
--- Only for the contract inside: an accepted graph and well-formed proposed edges, in their working forms.
+-- ── Only for the contract inside ──
+
+-- the fronts of a proposal's lists hold these edges; what stands behind them does not matter
+pub record HeldProposal (proposal : ProposalReading) (proposed : List Edge) : Type 0 where
+  pub as-many : proposal .edges ≡ length proposed
+  pub source-room : length (proposal .source) ≡ 256
+  pub sink-room : length (proposal .sink) ≡ 256
+  pub delay-room : length (proposal .delay) ≡ 256
+  pub sources : SourcesOf proposed (take (proposal .edges) (proposal .source))
+  pub sinks : SinksOf proposed (take (proposal .edges) (proposal .sink))
+  pub delays : DelaysOf proposed (take (proposal .edges) (proposal .delay))
+
+-- an accepted graph in its working form, and well-formed proposed edges
 pub record Judgeable (graph : GraphReading) (proposal : ProposalReading) (g : Graph) (proposed : List Edge) : Type 0 where
   pub accepted : AcceptedGraph g
   pub formed : WellFormedEdges (count g) proposed
   pub graph-is : graph ≡ workingGraph g
-  pub proposal-is : proposal ≡ workingProposal proposed
+  pub proposal-holds : HeldProposal proposal proposed
