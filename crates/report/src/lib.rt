@@ -1,0 +1,21 @@
+// The program's text: the lines of document 01 for a graph file and a proposal file.
+mod lines;
+
+ghost use Rattle.report.specs.Report.{Reported};
+use lines::text_of;
+
+// A text: its length, its bytes, and 0 behind them.
+pub struct Text {
+    pub length: usize,
+    pub bytes: [u8; 1024],
+}
+
+// What is printed of two files' bytes, whatever they are.
+pub fn report(graph: &[u8], proposal: &[u8]) -> Text
+    ensures { λ r. ⌜ Reported (now (graph .entry)) (now (proposal .entry)) r ⌝ }
+{
+    let figures = resync::figures(graph);
+    let set = resync::redundant(graph);
+    let verdict = resync::verdict(graph, proposal);
+    text_of(figures, set, verdict)
+}
