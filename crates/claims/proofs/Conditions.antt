@@ -14,7 +14,7 @@ use Rattle.model.specs.Tasks.{Task, Edge}
 use Rattle.model.specs.Theorems.{Decides}
 use Rattle.model.proofs.Tests.{decided, decides-iff, decides-true, decides-not, eqb-decides, ltb-decides}
 use Rattle.files.specs.Files.{endOutside, withinProcessor}
-use Rattle.claims.specs.Demand1.{Outside, FillingBit, NotBelow, WithinProcessor}
+use Rattle.claims.specs.Demand1.{Outside, FillingBit, NotBelow, SameProcessor}
 
 -- what decides a condition decides what it is equivalent to
 pub decides-same : {b : Bool} {p q : Type 0} → Decides b p → (p → q) → (q → p) → Decides b q
@@ -42,7 +42,7 @@ unfolding endOutside
 end-outside {k} {n} same e =
     subst (λ (m : ℕ). Decides (endOutside k e) (NotBelow m e)) same (decides-or (not-below k (e .source)) (not-below k (e .sink)))
 
-pub within-processor : (ts : List Task) (e : Edge) → Decides (withinProcessor ts e) (WithinProcessor ts e)
+pub within-processor : (ts : List Task) (e : Edge) → Decides (withinProcessor ts e) (SameProcessor ts e)
 unfolding withinProcessor
 within-processor ts e = eqb-decides _ _
 

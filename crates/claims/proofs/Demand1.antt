@@ -1,20 +1,24 @@
 -- Demand 1 is met: each call's refusals follow its sequence, a sequence says one thing only, and the other fields and the lent lists are what resync
 -- proves of them.
-use mathlib.Core.Path.{_≡_, refl, ap, sym, _∙_}
+use mathlib.Core.Path.{_≡_, refl, ap, sym, _∙_, subst}
 use mathlib.Core.Logic.{_≢_}
 use mathlib.Core.List.{List}
 use Prim.Native.Nat.{ℕ, _*_, _<_}
 use native.Mathlib.Omega.{arith}
 use lib.IntN.{pos}
 use Rattle.files.specs.declared.Refusal.{Refusal}
-use Rattle.files.specs.Files.{taskCount}
+use Rattle.files.specs.Files.{taskCount, graphRefusal, proposalRefusal}
+use Rattle.readings.specs.Working.{graphReading, proposalReading}
+use Rattle.readings.proofs.Held.{graph-refusal-given, proposal-refusal-given}
 use Rattle.schedule.specs.Schedule.{acceptanceRefusal}
 use Rattle.resync.specs.declared.Outcome.{Outcome}
 use Rattle.resync.specs.Calls.{outcome, figuresOf, redundantOf, delaysRefusal, timetableRefusal}
 use Rattle.resync.proofs.Meanings.{figures-refused, redundant-refused, success-plain, delays-kept, timetable-kept}
-use Rattle.claims.specs.Demand1.{Sequence, Says, _when_, graphChecks, delaysChecks, timetableChecks, verdictChecks, Obeys, Demand1}
+use Rattle.claims.specs.Demand1.{Sequence, Says, _when_, graphFileChecks, proposalFileChecks, graphChecks, delaysChecks, timetableChecks, verdictChecks, Obeys, Demand1}
 use Rattle.claims.proofs.Sequences.{Follows, says, All, all-both, OnePlace, settled, says-one}
-use Rattle.claims.proofs.Followed.{graph-follows, graph-earlier, delays-follow, timetable-follows}
+use Rattle.claims.proofs.Followed.{graph-file-follows, graph-file-earlier, proposal-file-follows, proposal-file-earlier, graph-follows, graph-earlier, delays-follow, timetable-follows}
+use Rattle.claims.proofs.Passed.{graph-file-plain, proposal-file-plain}
+use Rattle.claims.proofs.Answered.{answered}
 use Rattle.claims.proofs.Verdicts.{verdict-settled, verdict-says, place-passed, verdict-unnamed, verdict-plain, verdict-late}
 
 module _ (checks : Sequence) (one-place : All OnePlace checks) where
@@ -68,9 +72,24 @@ redundant-obeys : (s : List ℕ) → Obeys (graphChecks s) (redundantOf s .outco
 unfolding redundantOf
 redundant-obeys s = obeys-plainly (graphChecks s) (graph-settled s) (acceptanceRefusal s) (graph-follows s) (graph-nowhere s)
 
+-- the readings, whose refusals are those of their files
+read-graph-obeys : (s : List ℕ) → Obeys (graphFileChecks s) (outcome (graphReading s .refusal))
+read-graph-obeys s =
+    subst (λ (r : Refusal). Obeys (graphFileChecks s) (outcome r)) (sym (graph-refusal-given s))
+    (obeys-plainly (graphFileChecks s) (settled (graphFileChecks s) (graph-file-earlier s)) (graphRefusal s) (graph-file-follows s)
+    (λ none. ap (λ (r : Refusal). r .place) (graph-file-plain s none)))
+
+read-proposal-obeys : (n : ℕ) (p : List ℕ) → Obeys (proposalFileChecks n p) (outcome (proposalReading n p .refusal))
+read-proposal-obeys n p =
+    subst (λ (r : Refusal). Obeys (proposalFileChecks n p) (outcome r)) (sym (proposal-refusal-given n p))
+    (obeys-plainly (proposalFileChecks n p) (settled (proposalFileChecks n p) (proposal-file-earlier {k = n} {n = n} refl p)) (proposalRefusal n p)
+    (proposal-file-follows {k = n} {n = n} refl p) (λ none. ap (λ (r : Refusal). r .place) (proposal-file-plain n p none)))
+
 pub demand1-met : Demand1
 demand1-met =
     record {
+      read-graph = read-graph-obeys;
+      read-proposal = read-proposal-obeys;
       figures = figures-obey;
       figures-refused = λ s some. let h = figures-refused s some in (h .1, h .2, h .3);
       redundant = redundant-obeys;
@@ -81,6 +100,7 @@ demand1-met =
           obeys-plainly (timetableChecks s turns room) (timetable-settled s turns room) (timetableRefusal s turns room)
           (timetable-follows s turns room) (timetable-nowhere s turns room);
       timetable-kept = timetable-kept;
+      answered = answered;
       verdict = λ s p r answer.
           obeys (verdictChecks s p) (verdict-settled s p) (r .outcome) (verdict-says s p r answer)
           (verdict-unnamed s p r answer)

@@ -10,7 +10,7 @@ use native.Mathlib.Nat.{not-suc-le-zero}
 use native.Mathlib.Omega.{arith}
 use lib.Dec.{eqb, eqb→eq}
 use lib.IntN.{pos, negsuc, _-ℤ_}
-use lib.ListN.{length, getD, take}
+use lib.ListN.{length, getD, take, List·getD-append}
 use lib.Seq.{take-at}
 use borrow.Author.Tests.{lt-ltb, le-ltb}
 use Rattle.model.specs.Lists.{sumOver, sumBelow, counted, always}
@@ -28,7 +28,7 @@ use Rattle.files.specs.Files.{graphOf, proposalOf}
 use Rattle.files.proofs.First.{if-passed}
 use Rattle.marks.specs.declared.Marks.{Marks}
 use Rattle.marks.specs.Marks.{bitOf, markAt, setBelow, placesBelow, placesOf}
-use Rattle.marks.proofs.Listed.{places-counted}
+use Rattle.marks.proofs.Listed.{places-counted, places-ascend}
 use Rattle.delays.specs.Delays.{entry}
 use Rattle.verdicts.specs.Theorems.{Sentenced, cycle-made, order-lost, late, accepted}
 use Rattle.verdicts.proofs.Meanings.{result-latency}
@@ -36,8 +36,8 @@ use Rattle.resync.specs.declared.ProposalVerdict.{ProposalVerdict}
 use Rattle.resync.specs.Calls.{outcome, tasksOf, delaysAfter, redundantOf, timetableAfter}
 use Rattle.resync.specs.Theorems.{AcceptedFile}
 use Rattle.resync.specs.Verdict.{VerdictAnswer, verdictOf, verdictRefusal, toldLate, countedMargin, margin, resultLatency}
-use Rattle.resync.proofs.Meanings.{figures-given, redundant-given, delays-given, timetable-given, figures-mean, figures-run, delays-mean, delays-small, redundant-mean, redundant-counted, redundant-listed, timetable-mean, timetable-runs}
-use Rattle.claims.specs.Demand2.{Demand2Met, delayIn, markBit, startIn}
+use Rattle.resync.proofs.Meanings.{figures-given, redundant-given, delays-given, timetable-given, figures-mean, figures-run, delays-mean, delays-small, redundant-mean, redundant-counted, delays-past, timetable-past, redundant-listed, timetable-mean, timetable-runs}
+use Rattle.claims.specs.Demand2.{Demand2, delayIn, markBit, startIn}
 use Rattle.claims.specs.Demand3.{WellFormedFile}
 use Rattle.claims.proofs.Answer.{number-is, only-judged, all-passed, edges-formed, sentenced}
 
@@ -92,6 +92,23 @@ mark-decides s graph i below = redundant-mean s graph i below
 listed-places : (marked : ℕ → Bool) → take (placesOf marked .count) (placesOf marked .place) ≡ placesBelow 256 marked
 unfolding placesOf
 listed-places marked = take-at (placesBelow 256 marked) _ (setBelow 256 marked) (places-counted 256 marked)
+
+-- they stand first in their list, ascending
+places-rise :
+    (marked : ℕ → Bool) (i j : ℕ) → i < j → j < placesOf marked .count → getD (placesOf marked .place) i 0 < getD (placesOf marked .place) j 0
+unfolding placesOf
+places-rise marked i j less within =
+    let many = places-counted 256 marked in
+    let here : j < length (placesBelow 256 marked) = omega (arith, within, many) in
+    let before : i < length (placesBelow 256 marked) = omega (arith, less, here) in
+    let one = List·getD-append (placesBelow 256 marked) _ 0 i before in
+    let two = List·getD-append (placesBelow 256 marked) _ 0 j here in
+    subst (λ (x : ℕ). x < getD (placesOf marked .place) j 0) (sym one)
+    (subst (λ (x : ℕ). getD (placesBelow 256 marked) i 0 < x) (sym two) (places-ascend 256 marked i j less here))
+
+places-as-many : (s : List ℕ) → placesOf (markAt (redundantOf s .marks)) .count ≡ redundantOf s .count
+unfolding placesOf
+places-as-many s = sym (redundant-counted s)
 
 -- ── Starts ──
 
@@ -211,53 +228,57 @@ module _ (s p : List ℕ) (r : ProposalVerdict) (answer : VerdictAnswer s p r) w
       go graph formed is (late because off runs misses) = (latency-meant graph formed off, misses-iff graph formed off .0 misses)
       go graph formed is (accepted because off runs meets) = absurd (omega (arith, is, because))
 
-pub demand2-met : Demand2Met
+pub demand2-met : Demand2
 unfolding outcome tasksOf
-demand2-met s p turns table starts r answer =
+demand2-met =
     record {
-      delays-given = delays-given s (length table);
-      delay-least = λ given a b l k.
+      delays-given = λ s table. delays-given s (length table);
+      delay-least = λ s table given a b l k.
           let graph = delays-given s (length table) .0 given .0 in
           let h = delays-mean s table given a b l k in
           delay-read (edges (graphOf s)) a b (delayIn (tasksOf s) (delaysAfter s table) a b) (delays-small s graph a b) (h .0) (h .1) (h .2);
-      delay-none = λ given a b l k.
+      delay-none = λ s table given a b l k.
           let graph = delays-given s (length table) .0 given .0 in
           let h = delays-mean s table given a b l k in
           none-read (edges (graphOf s)) a b (delayIn (tasksOf s) (delaysAfter s table) a b) (delays-small s graph a b) (h .0) (h .1) (h .2);
-      redundant-given = redundant-given s;
-      marked = λ given i l.
+      delays-past = delays-past;
+      redundant-given = redundant-given;
+      marked = λ s given i l.
           let d = mark-decides s (redundant-given s .0 given) i l in
           (λ set. d .if-true (eq→eqb set), λ redundant. eqb→eq (markBit (redundantOf s .marks) i) 1 (decides-true d redundant));
-      not-marked = λ given i l.
+      not-marked = λ s given i l.
           let d = mark-decides s (redundant-given s .0 given) i l in (
             λ unset redundant.
                 let set : markBit (redundantOf s .marks) i ≡ 1 = eqb→eq (markBit (redundantOf s .marks) i) 1 (decides-true d redundant) in
                 omega (arith, set, unset),
             λ needed. bit-unset _ (λ set. needed (d .if-true (eq→eqb set))),
           );
-      marks-counted = redundant-counted s ∙ marks-summed (redundantOf s .marks);
-      places-listed = λ given place.
+      marks-counted = λ s. redundant-counted s ∙ marks-summed (redundantOf s .marks);
+      places-listed = λ s given place.
           subst (λ (xs : List ℕ). List·Memᴰ place xs ↔ ((1 ≤ place) × Redundant (graphOf s) (place - 1))) (sym (listed-places (markAt (redundantOf s .marks))))
           (redundant-listed s (redundant-given s .0 given) place);
-      figures-given = figures-given s;
-      tasks-counted = λ given. figures-mean s (figures-given s .0 given) .0;
-      edges-counted = λ given. figures-mean s (figures-given s .0 given) .1;
-      latency = λ given. figures-mean s (figures-given s .0 given) .2;
-      latency-run = λ given. figures-run s (figures-given s .0 given);
-      timetable-given = timetable-given s turns (length starts);
-      timetable-earliest = λ given.
+      places-ascend = λ s. places-rise (markAt (redundantOf s .marks));
+      places-counted = places-as-many;
+      figures-given = figures-given;
+      tasks-counted = λ s given. figures-mean s (figures-given s .0 given) .0;
+      edges-counted = λ s given. figures-mean s (figures-given s .0 given) .1;
+      latency = λ s given. figures-mean s (figures-given s .0 given) .2;
+      latency-run = λ s given. figures-run s (figures-given s .0 given);
+      timetable-given = λ s turns starts. timetable-given s turns (length starts);
+      timetable-earliest = λ s turns starts given.
           let graph = timetable-given s turns (length starts) .0 given .2 in
           let run = timetable-runs s turns graph in
           same-run (tasksOf s) (edges (graphOf s)) turns (run .0) (startIn (tasksOf s) (timetableAfter s turns starts)) (estimates (timeOf (graphOf s)))
           (graph-ends (graphOf s) (graph .1 .formed .syncs-formed .ends)) (run .1) (timetable-mean s turns starts given (run .0) (run .1));
-      result-latency = λ given. subst (Latency _ _ _) (sym (latency-told s p r answer given)) (accepted-told s p r answer given .0);
-      margin = margin-told s p r answer;
-      in-time = λ given.
+      timetable-past = timetable-past;
+      result-latency = λ s p r answer given. subst (Latency _ _ _) (sym (latency-told s p r answer given)) (accepted-told s p r answer given .0);
+      margin = margin-told;
+      in-time = λ s p r answer given.
           let low = subst (λ (l : ℕ). l ≤ graphOf s .bound) (sym (latency-told s p r answer given)) (accepted-told s p r answer given .1) in
           (low, margin-told s p r answer given ∙ margin-within (graphOf s .bound) (r .latency) low);
-      late-latency = λ is. subst (Latency _ _ _) (sym (late-told s p r answer is)) (late-meant s p r answer is .0);
-      late-margin = late-margin-told s p r answer;
-      late-by = λ is.
+      late-latency = λ s p r answer is. subst (Latency _ _ _) (sym (late-told s p r answer is)) (late-meant s p r answer is .0);
+      late-margin = late-margin-told;
+      late-by = λ s p r answer is.
           let high = subst (λ (l : ℕ). graphOf s .bound < l) (sym (late-told s p r answer is)) (late-meant s p r answer is .1) in
           (high, late-margin-told s p r answer is ∙ margin-beyond (graphOf s .bound) (r .outcome .latency) high);
     }

@@ -1,43 +1,49 @@
 -- Demand 3, proved. Where the graph is accepted and the proposal well-formed, the proposed edges are sentenced by their result's cycles, runs and
 -- lateness: which of the four sentences it is decides every equivalence. What is accepted by runs is accepted by 01's words, and of that the model shows
 -- the rest.
-use mathlib.Core.Path.{_≡_, refl}
+use mathlib.Core.Path.{_≡_, refl, sym, _∙_}
 use mathlib.Core.Logic.{_↔_}
 use mathlib.Core.List.{List}
 use Prim.Native.Nat.{ℕ, _≤_}
 use native.Mathlib.Nat.{le-trans}
 use native.Mathlib.Omega.{arith}
-use Rattle.model.specs.Tasks.{Edge, _∈_}
+use Rattle.model.specs.Tasks.{Edge, _∈_, Ends}
 use Rattle.model.specs.Graph.{Graph, count, edges, timeOf}
 use Rattle.model.specs.Paths.{OnCycle, NoneOnCycle}
 use Rattle.model.specs.Runs.{RunsAllowed, SomeRunBreaks}
-use Rattle.model.specs.Proposals.{AcceptedGraph}
+use Rattle.model.specs.Compute.{earliest}
+use Rattle.model.specs.Proposals.{AcceptedGraph, AcceptedProposal}
 use Rattle.model.specs.Theorems.{Resynchronizes}
 use Rattle.model.proofs.Graphs.{graph-ends}
-use Rattle.model.proofs.Theorems.{never-stalls-iff, first-output, accepted-result, accepted-iff}
+use Rattle.model.proofs.Theorems.{earliest-run, never-stalls-iff, first-output, accepted-result, accepted-iff}
 use Rattle.files.specs.Files.{graphOf, proposalOf}
 use Rattle.verdicts.specs.Theorems.{Sentenced, cycle-made, order-lost, late, accepted}
+use Rattle.verdicts.proofs.Meanings.{accepted-by-paths}
 use Rattle.resync.specs.declared.ProposalVerdict.{ProposalVerdict}
 use Rattle.resync.specs.Calls.{tasksOf}
 use Rattle.resync.specs.Theorems.{AcceptedFile}
 use Rattle.resync.specs.Verdict.{VerdictAnswer}
-use Rattle.claims.specs.Demand3.{Demand3Met, WellFormedFile, resultOf, RunBreaks, Late}
-use Rattle.claims.proofs.Answer.{only-judged, all-passed, edges-formed, sentenced}
+use Rattle.claims.specs.Demand3.{Demand3, WellFormedFile, resultGraph, RunBreaks, Late}
+use Rattle.claims.proofs.Passed.{graph-passes, proposal-passes}
+use Rattle.claims.proofs.Answer.{only-judged, all-passed, edges-formed, number-judged, sentenced}
 
 -- An accepted graph allows its own runs and has its own cycles; it never stalls, and its latency is within the bound.
 pub original-kept : (g : Graph) → AcceptedGraph g → Resynchronizes g g
 original-kept g graph =
     record {
       runs-allowed = λ K start dur run. run;
-      never-stalls = never-stalls-iff (count g) (edges g) (graph-ends g (graph .formed .syncs-formed .ends)) .1 (graph .no-zero-cycle);
+      never-stalls = never-stalls-iff (count g) (edges g) between-tasks .1 (graph .no-zero-cycle);
       cycles = λ p. (λ c. c, λ c. c);
+      earliest-exists = λ K dur long. (earliest (count g) (edges g) dur, earliest-run (count g) (edges g) between-tasks (graph .no-zero-cycle) K dur long);
       in-time = λ K start dur some run short.
           let l = graph .bound-met in
           le-trans
-          (first-output (count g) (edges g) (graph-ends g (graph .formed .syncs-formed .ends)) K start dur (timeOf g) (g .output) (l .0) some
-          (graph .formed .output-below) run short (l .1))
+          (first-output (count g) (edges g) between-tasks K start dur (timeOf g) (g .output) (l .0) some (graph .formed .output-below) run short (l .1))
           (l .2);
     }
+  where
+    between-tasks : Ends (count g) (edges g)
+    between-tasks = graph-ends g (graph .formed .syncs-formed .ends)
 
 -- where the original allows every run of the result, none breaks it
 none-breaks : (n : ℕ) (rs es : List Edge) → RunsAllowed n rs es → SomeRunBreaks n rs es → ⊥
@@ -51,16 +57,16 @@ module _ (s p : List ℕ) (r : ProposalVerdict) (answer : VerdictAnswer s p r) w
     sentence : Sentenced (graphOf s) (proposalOf p) (r .outcome .number)
     sentence = sentenced s p r answer graph formed (r .outcome .number) .0 refl
 
-    thirteen : (r .outcome .number ≡ 13) ↔ ((e : Edge) × e ∈ proposalOf p × OnCycle (edges (resultOf s p)) e)
+    thirteen : (r .outcome .number ≡ 13) ↔ ((e : Edge) × e ∈ proposalOf p × OnCycle (edges (resultGraph s p)) e)
     thirteen = (λ is. to is sentence, λ h. gets 13 (cycle-made refl (h .0) (h .1) (h .2)))
       where
-        to : {n : ℕ} → n ≡ 13 → Sentenced (graphOf s) (proposalOf p) n → (e : Edge) × e ∈ proposalOf p × OnCycle (edges (resultOf s p)) e
+        to : {n : ℕ} → n ≡ 13 → Sentenced (graphOf s) (proposalOf p) n → (e : Edge) × e ∈ proposalOf p × OnCycle (edges (resultGraph s p)) e
         to is (cycle-made because e m c) = (e, m, c)
         to is (order-lost because off breaks) = absurd (omega (arith, is, because))
         to is (late because off runs misses) = absurd (omega (arith, is, because))
         to is (accepted because off runs meets) = absurd (omega (arith, is, because))
 
-    module _ (off : NoneOnCycle (edges (resultOf s p)) (proposalOf p)) where
+    module _ (off : NoneOnCycle (edges (resultGraph s p)) (proposalOf p)) where
       fourteen : (r .outcome .number ≡ 14) ↔ RunBreaks s p
       unfolding tasksOf
       fourteen = (λ is. to is sentence, λ breaks. gets 14 (order-lost refl off breaks))
@@ -78,7 +84,7 @@ module _ (s p : List ℕ) (r : ProposalVerdict) (answer : VerdictAnswer s p r) w
           to : {n : ℕ} → n ≡ 15 → Sentenced (graphOf s) (proposalOf p) n → (RunBreaks s p → ⊥) × Late s p
           to is (cycle-made because e m c) = absurd (off e m c)
           to is (order-lost because apart breaks) = absurd (omega (arith, is, because))
-          to is (late because apart runs misses) = (none-breaks (tasksOf s) (edges (resultOf s p)) (edges (graphOf s)) runs, misses)
+          to is (late because apart runs misses) = (none-breaks (tasksOf s) (edges (resultGraph s p)) (edges (graphOf s)) runs, misses)
           to is (accepted because apart runs meets) = absurd (omega (arith, is, because))
 
           back : (RunBreaks s p → ⊥) → Late s p → {n : ℕ} → Sentenced (graphOf s) (proposalOf p) n → n ≡ 15
@@ -95,7 +101,7 @@ module _ (s p : List ℕ) (r : ProposalVerdict) (answer : VerdictAnswer s p r) w
           to is (cycle-made because e m c) = absurd (off e m c)
           to is (order-lost because apart breaks) = absurd (omega (arith, is, because))
           to is (late because apart runs misses) = absurd (omega (arith, is, because))
-          to is (accepted because apart runs meets) = (none-breaks (tasksOf s) (edges (resultOf s p)) (edges (graphOf s)) runs, meets)
+          to is (accepted because apart runs meets) = (none-breaks (tasksOf s) (edges (resultGraph s p)) (edges (graphOf s)) runs, meets)
 
           back : (RunBreaks s p → ⊥) → (Late s p → ⊥) → {n : ℕ} → Sentenced (graphOf s) (proposalOf p) n → n ≡ 0
           back none met (cycle-made because e m c) = absurd (off e m c)
@@ -103,10 +109,10 @@ module _ (s p : List ℕ) (r : ProposalVerdict) (answer : VerdictAnswer s p r) w
           back none met (late because apart runs misses) = absurd (met misses)
           back none met (accepted because apart runs meets) = because
 
-    kept : r .outcome .number ≡ 0 → Resynchronizes (graphOf s) (resultOf s p)
+    kept : r .outcome .number ≡ 0 → Resynchronizes (graphOf s) (resultGraph s p)
     kept none = go none sentence
       where
-        go : {n : ℕ} → n ≡ 0 → Sentenced (graphOf s) (proposalOf p) n → Resynchronizes (graphOf s) (resultOf s p)
+        go : {n : ℕ} → n ≡ 0 → Sentenced (graphOf s) (proposalOf p) n → Resynchronizes (graphOf s) (resultGraph s p)
         go is (cycle-made because e m c) = absurd (omega (arith, is, because))
         go is (order-lost because off breaks) = absurd (omega (arith, is, because))
         go is (late because off runs misses) = absurd (omega (arith, is, because))
@@ -114,28 +120,37 @@ module _ (s p : List ℕ) (r : ProposalVerdict) (answer : VerdictAnswer s p r) w
             let well = edges-formed s p r answer graph formed in
             accepted-result (graphOf s) (proposalOf p) (graph .1) well (accepted-iff (graphOf s) (proposalOf p) (graph .1) well off .1 (runs, meets))
 
-    off-cycles : 14 ≤ r .outcome .number → NoneOnCycle (edges (resultOf s p)) (proposalOf p)
+    by-paths : (r .outcome .number ≡ 0) ↔ AcceptedProposal (graphOf s) (proposalOf p)
+    by-paths =
+        let iff = accepted-by-paths (graphOf s) (proposalOf p) (graph .1) (edges-formed s p r answer graph formed) (r .outcome .place) in
+        let same = number-judged s p r answer graph formed in
+        (λ none. iff .0 (sym same ∙ none), λ ok. same ∙ iff .1 ok)
+
+    off-cycles : 14 ≤ r .outcome .number → NoneOnCycle (edges (resultGraph s p)) (proposalOf p)
     off-cycles high = go high sentence
       where
-        go : {n : ℕ} → 14 ≤ n → Sentenced (graphOf s) (proposalOf p) n → NoneOnCycle (edges (resultOf s p)) (proposalOf p)
+        go : {n : ℕ} → 14 ≤ n → Sentenced (graphOf s) (proposalOf p) n → NoneOnCycle (edges (resultGraph s p)) (proposalOf p)
         go above (cycle-made because e m c) = absurd (omega (arith, above, because))
         go above (order-lost because off breaks) = off
         go above (late because off runs misses) = off
         go above (accepted because off runs meets) = off
 
-pub demand3-met : Demand3Met
+pub demand3-met : Demand3
 unfolding tasksOf
-demand3-met s p r answer =
+demand3-met =
     record {
-      original = λ graph. original-kept (graphOf s) (graph .1);
-      kept = λ none. let h = all-passed s p r answer none in (h .0, h .1, kept s p r answer (h .0) (h .1) none);
-      anyone = λ graph proposed formed by-paths. accepted-result (graphOf s) proposed (graph .1) formed by-paths;
-      thirteen = thirteen s p r answer;
-      fourteen = fourteen s p r answer;
-      fifteen = fifteen s p r answer;
-      otherwise = otherwise s p r answer;
-      only-then = only-judged s p r answer;
-      only-off-cycles = λ high.
+      graph-passes = graph-passes;
+      proposal-passes = proposal-passes;
+      original = λ s graph. original-kept (graphOf s) (graph .1);
+      anyone = λ s graph proposed formed by-paths. accepted-result (graphOf s) proposed (graph .1) formed by-paths;
+      kept = λ s p r answer none. let h = all-passed s p r answer none in (h .0, h .1, kept s p r answer (h .0) (h .1) none);
+      by-paths = by-paths;
+      thirteen = thirteen;
+      fourteen = fourteen;
+      fifteen = fifteen;
+      otherwise = otherwise;
+      only-then = only-judged;
+      only-off-cycles = λ s p r answer high.
           let above : 13 ≤ r .outcome .number = omega (arith, high) in
           let h = only-judged s p r answer above in
           off-cycles s p r answer (h .0) (h .1) high;

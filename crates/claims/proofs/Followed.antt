@@ -22,7 +22,7 @@ use Rattle.schedule.specs.Schedule.{scheduleRefusal, acceptanceRefusal}
 use Rattle.schedule.specs.Theorems.{Judged, zero-cycle, input-waits, not-joined, bound-below, passes}
 use Rattle.schedule.proofs.Judged.{judged-iff, no-place}
 use Rattle.resync.specs.Calls.{roomRefusal, turnsRefusal, tasksOf, delaysRefusal, timetableRefusal}
-use Rattle.claims.specs.Demand1.{Sequence, _at_when_, _when_, _then_, each, Outside, FillingBit, NotBelow, WithinProcessor, SameAsEarlier, InputWaits, NotJoined, BoundBelow, graphFileChecks, scheduleChecks, graphChecks, proposalFileChecks, delaysChecks, timetableChecks}
+use Rattle.claims.specs.Demand1.{Sequence, _at_when_, _when_, _then_, each, Outside, FillingBit, NotBelow, SameProcessor, SameAsEarlier, InputWaits, NotJoined, BoundBelow, graphFileChecks, nineToTwelve, graphChecks, proposalFileChecks, delaysChecks, timetableChecks}
 use Rattle.claims.proofs.Sequences.{Follows, passing, stopping, one, check-then, and-then, only, each-follows, All, all-both, all-each, Earlier, low}
 use Rattle.claims.proofs.Conditions.{decides-or, differs, outside, not-below, end-outside, within-processor, filling-bit}
 
@@ -87,12 +87,12 @@ module _ (s : List ℕ) where
   time-follows v = one (eqb-decides _ _) (λ z. omega arith)
 
   abbrev edge : ℕ → Sequence
-  edge j = 6 at suc j when NotBelow (taskCount s) (edgeIn (g .syncs) j) then 7 at suc j when WithinProcessor (g .tasks) (edgeIn (g .syncs) j)
+  edge j = 6 at suc j when NotBelow (taskCount s) (edgeIn (g .syncs) j) then 7 at suc j when SameProcessor (g .tasks) (edgeIn (g .syncs) j)
 
   edge-follows : (j : ℕ) → Follows (edge j) (edgeRefusal (g .tasks) (g .syncs) j)
   unfolding edgeRefusal
   edge-follows j =
-      and-then (6 at suc j when NotBelow (taskCount s) (edgeIn (g .syncs) j)) (7 at suc j when WithinProcessor (g .tasks) (edgeIn (g .syncs) j)) _
+      and-then (6 at suc j when NotBelow (taskCount s) (edgeIn (g .syncs) j)) (7 at suc j when SameProcessor (g .tasks) (edgeIn (g .syncs) j)) _
       (ends-follow (task-count s) (g .syncs) j)
       (λ none. only (one (within-processor (g .tasks) (edgeIn (g .syncs) j)) (λ z. omega arith)))
 
@@ -110,13 +110,13 @@ module _ (s : List ℕ) where
       (each-follows edge (edgeRefusal (g .tasks) (g .syncs)) edge-follows (sync-count s))
       (λ none. only (each-follows repeats (repeatRefusal (g .syncs)) (repeats-follow (g .syncs)) (sync-count s))))
 
-  graph-file-follows : Follows (graphFileChecks s) (graphRefusal s)
+  pub graph-file-follows : Follows (graphFileChecks s) (graphRefusal s)
   unfolding graphFileChecks graphRefusal
   graph-file-follows =
       and-then (header then lengths s (graphBits s) then 4 when FillingBit s (graphBits s) then header-ends)
       (each (taskCount s) times then each (edgeCount s) edge then each (edgeCount s) repeats) _ frame-follows (λ none. only records-follow)
 
-  graph-file-earlier : All Earlier (graphFileChecks s)
+  pub graph-file-earlier : All Earlier (graphFileChecks s)
   unfolding graphFileChecks
   graph-file-earlier =
       all-both Earlier (header then lengths s (graphBits s) then 4 when FillingBit s (graphBits s) then header-ends)
@@ -149,8 +149,8 @@ module _ (g : Graph) where
       go (inl same) = inl same
       go (inr other) = inr (λ path. apart (other, path))
 
-  judged-follows : (m : ℕ) → scheduleRefusal g .number ≡ m → Judged g m → Follows (scheduleChecks g) (scheduleRefusal g)
-  unfolding scheduleChecks
+  judged-follows : (m : ℕ) → scheduleRefusal g .number ≡ m → Judged g m → Follows (nineToTwelve g) (scheduleRefusal g)
+  unfolding nineToTwelve
   judged-follows m is (zero-cycle nine z) =
       let number : scheduleRefusal g .number ≡ 9 = is ∙ nine in
       stopping (λ none. omega arith) (inl (z, number, no-place g))
@@ -167,21 +167,21 @@ module _ (g : Graph) where
   judged-follows m is (passes none a free joined l latest within) =
       passing (is ∙ none) (a, (none-waits free, (joined-so joined, (in-time g l latest within, tt))))
 
-  schedule-follows : WellFormed g → Follows (scheduleChecks g) (scheduleRefusal g)
+  schedule-follows : WellFormed g → Follows (nineToTwelve g) (scheduleRefusal g)
   schedule-follows formed = judged-follows (scheduleRefusal g .number) refl (judged-iff g formed (scheduleRefusal g .number) .0 refl)
 
-schedule-earlier : (g : Graph) → All Earlier (scheduleChecks g)
-unfolding scheduleChecks
+schedule-earlier : (g : Graph) → All Earlier (nineToTwelve g)
+unfolding nineToTwelve
 schedule-earlier g = (low tt, (low tt, (low tt, (low tt, tt))))
 
 pub graph-earlier : (s : List ℕ) → All Earlier (graphChecks s)
 unfolding graphChecks
-graph-earlier s = all-both Earlier (graphFileChecks s) (scheduleChecks (graphOf s)) (graph-file-earlier s) (schedule-earlier (graphOf s))
+graph-earlier s = all-both Earlier (graphFileChecks s) (nineToTwelve (graphOf s)) (graph-file-earlier s) (schedule-earlier (graphOf s))
 
 pub graph-follows : (s : List ℕ) → Follows (graphChecks s) (acceptanceRefusal s)
 unfolding graphChecks acceptanceRefusal
 graph-follows s =
-    and-then (graphFileChecks s) (scheduleChecks (graphOf s)) _ (graph-file-follows s)
+    and-then (graphFileChecks s) (nineToTwelve (graphOf s)) _ (graph-file-follows s)
     (λ none. only (schedule-follows (graphOf s) (graph-formed s none)))
 
 -- ── 16 and 17 ──

@@ -4,6 +4,8 @@ pub mod Conditions
 pub mod Followed
 pub mod Verdicts
 pub mod Answer
+pub mod Answered
+pub mod Passed
 pub mod Demand1
 pub mod Demand2
 pub mod Demand3

@@ -36,7 +36,7 @@ use Rattle.verdicts.proofs.Meanings.{sentenced-iff, lost-place, result-latency}
 use Rattle.resync.specs.declared.ProposalVerdict.{ProposalVerdict}
 use Rattle.resync.specs.Calls.{tasksOf}
 use Rattle.resync.specs.Verdict.{margin, verdictRefusal, countedMargin, toldLate, resultLatency, verdictOf, VerdictAnswer}
-use Rattle.claims.specs.Demand1.{Check, Sequence, _at_when_, _when_, _then_, each, Says, CycleMade, OrderLost, graphChecks, proposalFileChecks, proposedChecks, verdictChecks, LateTold}
+use Rattle.claims.specs.Demand1.{Check, Sequence, _at_when_, _when_, _then_, each, Says, CycleMade, SomeOrderLost, graphChecks, proposalFileChecks, proposedChecks, verdictChecks, LateTold}
 use Rattle.claims.proofs.Sequences.{Follows, passing, stopping, one, check-then, and-then, only, each-follows, says, All, all-both, all-each, OnePlace, settled, answers-so, earlier-low}
 use Rattle.claims.proofs.Followed.{in-time, graph-follows, graph-earlier, proposal-file-follows, proposal-file-earlier}
 
@@ -117,7 +117,7 @@ module _ (g : Graph) (proposed : List Edge) (graph : AcceptedGraph g) (formed : 
   none-made off (e, m, on) = off e m on
 
   none-lost :
-      NoneOnCycle (edges (result g proposed)) proposed → RunsAllowed (count g) (edges (result g proposed)) (edges g) → OrderLost g proposed → ⊥
+      NoneOnCycle (edges (result g proposed)) proposed → RunsAllowed (count g) (edges (result g proposed)) (edges g) → SomeOrderLost g proposed → ⊥
   none-lost off runs (e, m, lost) = lost (result-orders g proposed (off-cycles-of g proposed graph formed off) .1 runs e m)
 
   latest :

@@ -18,6 +18,7 @@ use Rattle.model.specs.Graph.{Graph, edges, timeOf}
 use Rattle.model.specs.Paths.{Path, ZeroCycle, OnCycle, SomeLost, Latency}
 use Rattle.model.specs.Proposals.{result}
 use Rattle.files.specs.Files.{taskCount, edgeCount, graphBits, proposalBits, graphOf, proposalOf, edgeIn}
+use Rattle.readings.specs.Working.{graphReading, proposalReading}
 use Rattle.verdicts.specs.Verdicts.{OpenPlace}
 use Rattle.verdicts.specs.Theorems.{FirstLost}
 use Rattle.resync.specs.declared.Outcome.{Outcome}
@@ -80,8 +81,8 @@ abbrev pub NotBelow : ℕ → Edge → Type 0
 NotBelow count e = (count ≤ e .source) ⊎ (count ≤ e .sink)
 
 -- "7: a graph edge within one processor"
-abbrev pub WithinProcessor : List Task → Edge → Type 0
-WithinProcessor tasks e = processorOf tasks (e .source) ≡ processorOf tasks (e .sink)
+abbrev pub SameProcessor : List Task → Edge → Type 0
+SameProcessor tasks e = processorOf tasks (e .source) ≡ processorOf tasks (e .sink)
 
 -- "8: same source, sink and delay as an earlier edge"
 abbrev pub SameAsEarlier : List Edge → ℕ → Type 0
@@ -104,8 +105,8 @@ abbrev pub CycleMade : Graph → List Edge → Type 0
 CycleMade g proposed = (e : Edge) × e ∈ proposed × OnCycle (edges (result g proposed)) e
 
 -- "14: an original order lost"
-abbrev pub OrderLost : Graph → List Edge → Type 0
-OrderLost g proposed = SomeLost (edges (result g proposed)) (edges g)
+abbrev pub SomeOrderLost : Graph → List Edge → Type 0
+SomeOrderLost g proposed = SomeLost (edges (result g proposed)) (edges g)
 
 -- ── "Sequence" ──
 
@@ -127,13 +128,13 @@ graphFileChecks s =
     -- "tasks 5": "a task time of 0; place is the task number"
     then each (taskCount s) (λ v. 5 at v when timeOf g v ≡ 0)
     -- "each edge 6 then 7": "place is the edge"
-    then each (edgeCount s) (λ j. 6 at suc j when NotBelow (taskCount s) (edge j) then 7 at suc j when WithinProcessor (g .tasks) (edge j))
+    then each (edgeCount s) (λ j. 6 at suc j when NotBelow (taskCount s) (edge j) then 7 at suc j when SameProcessor (g .tasks) (edge j))
     -- "then 8": "place is the first such later edge"
     then each (edgeCount s) (λ j. 8 at suc j when SameAsEarlier (g .syncs) j)
 
 -- "9 to 12" of a graph; "9: a cycle of total delay 0."
-unfoldable pub scheduleChecks : Graph → Sequence
-scheduleChecks g =
+unfoldable pub nineToTwelve : Graph → Sequence
+nineToTwelve g =
     9 when ZeroCycle (edges g)
     then 10 when InputWaits g
     then 11 when NotJoined g
@@ -141,7 +142,7 @@ scheduleChecks g =
 
 -- "Every call that takes a graph runs its checks up to 12"
 unfoldable pub graphChecks : List ℕ → Sequence
-graphChecks s = graphFileChecks s then scheduleChecks (graphOf s)
+graphChecks s = graphFileChecks s then nineToTwelve (graphOf s)
 
 -- 1 to 8 of a proposal file with the bytes p, beside a graph of n tasks
 unfoldable pub proposalFileChecks : ℕ → List ℕ → Sequence
@@ -165,7 +166,7 @@ proposalFileChecks n p =
 unfoldable pub proposedChecks : Graph → List Edge → Sequence
 proposedChecks g proposed =
     13 at-some OpenPlace g proposed when CycleMade g proposed
-    then 14 at-some FirstLost g proposed when OrderLost g proposed
+    then 14 at-some FirstLost g proposed when SomeOrderLost g proposed
     then 15 when BoundBelow (result g proposed)
 
 -- The delay table: "16: a lent list too short (tasks squared [..])", for a list of so much room
@@ -200,10 +201,13 @@ pub record LateTold (result : Graph) (o : Outcome) : Type 0 where
   pub margin-is : o .margin ≡ pos (result .bound) -ℤ pos (o .latency)
   pub negative : (k : ℕ) × (o .margin ≡ negsuc k)
 
--- For all bytes s of a graph file, all bytes p of a proposal file, all numbers and all lent lists. By their contracts the calls answer `figuresOf s`,
--- `redundantOf s`, `outcome (delaysRefusal s room)` and `outcome (timetableRefusal s turns room)`, where room is the length of the lent list, and leave
--- `delaysAfter` and `timetableAfter` in it; the verdict call answers an r with `VerdictAnswer s p r`.
+-- For all bytes s of a graph file, all bytes p of a proposal file, all numbers and all lent lists. By their contracts the calls answer `graphReading s`,
+-- `proposalReading n p`, `figuresOf s`, `redundantOf s`, `outcome (delaysRefusal s room)` and `outcome (timetableRefusal s turns room)`, where room is the
+-- length of the lent list, and leave `delaysAfter` and `timetableAfter` in it; the verdict call answers an r with `VerdictAnswer s p r`.
 pub record Demand1 : Type 0 where
+  -- the readings: 1 to 8 alone, of a proposal beside any number n of tasks; they tell number and place, and `outcome` puts 0 for latency and margin
+  pub read-graph : (s : List ℕ) → Obeys (graphFileChecks s) (outcome (graphReading s .refusal))
+  pub read-proposal : (n : ℕ) (p : List ℕ) → Obeys (proposalFileChecks n p) (outcome (proposalReading n p .refusal))
   -- figures, and redundant set: a refused graph has no figures and no marks
   pub figures : (s : List ℕ) → Obeys (graphChecks s) (figuresOf s .outcome)
   pub figures-refused :
@@ -217,7 +221,9 @@ pub record Demand1 : Type 0 where
   pub timetable : (s : List ℕ) (turns room : ℕ) → Obeys (timetableChecks s turns room) (outcome (timetableRefusal s turns room))
   pub timetable-kept :
       (s : List ℕ) (turns : ℕ) (starts : List ℕ) → timetableRefusal s turns (length starts) .number ≢ 0 → timetableAfter s turns starts ≡ starts
-  -- verdict: of every answer that the call's contract allows, whatever place it gives with 13
+  -- verdict: the contract allows some answer, so what is said of all answers is said of something
+  pub answered : (s p : List ℕ) → (r : ProposalVerdict) × VerdictAnswer s p r
+  -- of every answer that it allows, whatever place is given with 13
   pub verdict : (s p : List ℕ) (r : ProposalVerdict) → VerdictAnswer s p r → Obeys (verdictChecks s p) (r .outcome)
   pub verdict-refused : (s p : List ℕ) (r : ProposalVerdict) → VerdictAnswer s p r → r .outcome .number ≢ 0 → (r .latency ≡ 0) × (r .margin ≡ pos 0)
   pub verdict-late :

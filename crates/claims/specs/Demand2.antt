@@ -1,4 +1,4 @@
--- Demand 2, over the bytes, the number of turns and the lists handed to the calls, and their answers.
+-- Demand 2, for all bytes, numbers of turns and lists handed to the calls, and of their answers.
 --
 -- "Least delays, redundant waits, latency, earliest timetable and the tool's own plan are exactly those of the memorandum as document 01 reads it: a
 -- wait is marked redundant if it is so by that definition, and otherwise not." No call gives a plan yet; nothing is said of it here.
@@ -34,78 +34,102 @@ markBit marks i = getD (marks .words) (i / 64) 0 / 2 ^ (63 - i % 64) % 2
 abbrev pub startIn : ℕ → List ℕ → Times
 startIn n starts v k = getD starts ((k - 1) * n + v) 0
 
--- s and p are the bytes of a graph and of a proposal, `table` and `starts` the lent lists as they are handed over, r the answer to the proposal.
+-- s and p are the bytes of a graph and of a proposal, `table` and `starts` the lent lists as they are handed over, r is an answer to the proposal.
 -- What the calls answer and leave in the lists is named as in their contracts: `figuresOf s` is the answer of `figures`, `delaysAfter s table` what
 -- `least_delays` leaves in `table`.
-pub record Demand2 (s p : List ℕ) (turns : ℕ) (table starts : List ℕ) (r : ProposalVerdict) : Type 0 where
+pub record Demand2 : Type 0 where
   -- ── Least delays ──
   -- the table is given exactly for an accepted graph and a list of "tasks squared" numbers or more
-  pub delays-given : (outcome (delaysRefusal s (length table)) .number ≡ 0) ↔ (AcceptedFile s × (tasksOf s * tasksOf s ≤ length table))
+  pub delays-given :
+      (s table : List ℕ) → (outcome (delaysRefusal s (length table)) .number ≡ 0) ↔ (AcceptedFile s × (tasksOf s * tasksOf s ≤ length table))
   -- "The least delay from a to b is the smallest sum of delays over paths of one or more edges": a number is it exactly if it stands in the table at a
   -- and b, and is not the number for none
   pub delay-least :
-      outcome (delaysRefusal s (length table)) .number ≡ 0 → (a b : ℕ) → a < tasksOf s → b < tasksOf s →
+      (s table : List ℕ) → outcome (delaysRefusal s (length table)) .number ≡ 0 → (a b : ℕ) → a < tasksOf s → b < tasksOf s →
       (d : ℕ) → Least (edges (graphOf s)) a b (some d) ↔ ((delayIn (tasksOf s) (delaysAfter s table) a b ≡ d) × (d < 65535))
   -- "or none if there is no path", "65,535 for none"
   pub delay-none :
-      outcome (delaysRefusal s (length table)) .number ≡ 0 → (a b : ℕ) → a < tasksOf s → b < tasksOf s →
+      (s table : List ℕ) → outcome (delaysRefusal s (length table)) .number ≡ 0 → (a b : ℕ) → a < tasksOf s → b < tasksOf s →
       Least (edges (graphOf s)) a b none ↔ (delayIn (tasksOf s) (delaysAfter s table) a b ≡ 65535)
+  -- "After success, elements past the written part hold what they held", and the list is as long as it was
+  pub delays-past :
+      (s table : List ℕ) →
+      (length (delaysAfter s table) ≡ length table) × ((i : ℕ) → tasksOf s * tasksOf s ≤ i → getD (delaysAfter s table) i 0 ≡ getD table i 0)
   -- ── Redundant waits ──
   -- they are marked exactly for an accepted graph
-  pub redundant-given : (redundantOf s .outcome .number ≡ 0) ↔ AcceptedFile s
+  pub redundant-given : (s : List ℕ) → (redundantOf s .outcome .number ≡ 0) ↔ AcceptedFile s
   -- "A synchronization edge is redundant if, without it, the least delay between its ends is at most its own." "a wait is marked redundant if it is so by
   -- that definition"
-  pub marked : redundantOf s .outcome .number ≡ 0 → (i : ℕ) → i < 256 → (markBit (redundantOf s .marks) i ≡ 1) ↔ Redundant (graphOf s) i
+  pub marked :
+      (s : List ℕ) → redundantOf s .outcome .number ≡ 0 → (i : ℕ) → i < 256 → (markBit (redundantOf s .marks) i ≡ 1) ↔ Redundant (graphOf s) i
   -- "and otherwise not"
-  pub not-marked : redundantOf s .outcome .number ≡ 0 → (i : ℕ) → i < 256 → (markBit (redundantOf s .marks) i ≡ 0) ↔ (Redundant (graphOf s) i → ⊥)
+  pub not-marked :
+      (s : List ℕ) → redundantOf s .outcome .number ≡ 0 → (i : ℕ) → i < 256 → (markBit (redundantOf s .marks) i ≡ 0) ↔ (Redundant (graphOf s) i → ⊥)
   -- "and the number of marks set"
-  pub marks-counted : redundantOf s .count ≡ sumBelow 256 (markBit (redundantOf s .marks))
+  pub marks-counted : (s : List ℕ) → redundantOf s .count ≡ sumBelow 256 (markBit (redundantOf s .marks))
   -- "count of redundant edges and their places": `places` lists exactly those of the marks
   pub places-listed :
-      redundantOf s .outcome .number ≡ 0 → (place : ℕ) →
+      (s : List ℕ) → redundantOf s .outcome .number ≡ 0 → (place : ℕ) →
       List·Memᴰ place (take (placesOf (markAt (redundantOf s .marks)) .count) (placesOf (markAt (redundantOf s .marks)) .place))
       ↔ ((1 ≤ place) × Redundant (graphOf s) (place - 1))
+  -- "ascending"
+  pub places-ascend :
+      (s : List ℕ) (i j : ℕ) → i < j → j < placesOf (markAt (redundantOf s .marks)) .count →
+      getD (placesOf (markAt (redundantOf s .marks)) .place) i 0 < getD (placesOf (markAt (redundantOf s .marks)) .place) j 0
+  -- and as many as are counted
+  pub places-counted : (s : List ℕ) → placesOf (markAt (redundantOf s .marks)) .count ≡ redundantOf s .count
   -- ── Latency ──
   -- "Graph figures: tasks, edges, latency": they are given exactly for an accepted graph
-  pub figures-given : (figuresOf s .outcome .number ≡ 0) ↔ AcceptedFile s
-  pub tasks-counted : figuresOf s .outcome .number ≡ 0 → figuresOf s .tasks ≡ length (graphOf s .tasks)
-  pub edges-counted : figuresOf s .outcome .number ≡ 0 → figuresOf s .edges ≡ length (graphOf s .syncs)
+  pub figures-given : (s : List ℕ) → (figuresOf s .outcome .number ≡ 0) ↔ AcceptedFile s
+  pub tasks-counted : (s : List ℕ) → figuresOf s .outcome .number ≡ 0 → figuresOf s .tasks ≡ length (graphOf s .tasks)
+  pub edges-counted : (s : List ℕ) → figuresOf s .outcome .number ≡ 0 → figuresOf s .edges ≡ length (graphOf s .syncs)
   -- "Latency is the largest sum of estimated times along a path of delay-0 edges that ends at the latency output, the output's time included. The path may
   -- begin at any task, and may be the output alone."
-  pub latency : figuresOf s .outcome .number ≡ 0 → Latency (edges (graphOf s)) (timeOf (graphOf s)) (graphOf s .output) (figuresOf s .latency)
+  pub latency :
+      (s : List ℕ) → figuresOf s .outcome .number ≡ 0 →
+      Latency (edges (graphOf s)) (timeOf (graphOf s)) (graphOf s .output) (figuresOf s .latency)
   -- "This is document 000's Theorem 2, counted from time zero": it is when the output's first turn ends if tasks start as early as allowed and take their
   -- estimated times, in however many turns
   pub latency-run :
-      figuresOf s .outcome .number ≡ 0 → (K : ℕ) (start : Times) → 1 ≤ K →
+      (s : List ℕ) → figuresOf s .outcome .number ≡ 0 → (K : ℕ) (start : Times) → 1 ≤ K →
       Earliest (tasksOf s) (edges (graphOf s)) K start (estimates (timeOf (graphOf s))) →
       ends start (estimates (timeOf (graphOf s))) (graphOf s .output) 1 ≡ figuresOf s .latency
   -- ── Earliest timetable ──
   -- the timetable is given exactly for "1 to 64 turns", an accepted graph and a list of "tasks × turns" numbers or more
   pub timetable-given :
+      (s : List ℕ) (turns : ℕ) (starts : List ℕ) →
       (outcome (timetableRefusal s turns (length starts)) .number ≡ 0)
       ↔ ((1 ≤ turns) × (turns ≤ 64) × AcceptedFile s × (tasksOf s * turns ≤ length starts))
   -- "the earliest start at the estimated times": the starts in the list, in every turn, are those of "the allowed run with these durations in which no turn
   -- of a task starts later than in any other such run"
   pub timetable-earliest :
-      outcome (timetableRefusal s turns (length starts)) .number ≡ 0 →
+      (s : List ℕ) (turns : ℕ) (starts : List ℕ) → outcome (timetableRefusal s turns (length starts)) .number ≡ 0 →
       Earliest (tasksOf s) (edges (graphOf s)) turns (startIn (tasksOf s) (timetableAfter s turns starts)) (estimates (timeOf (graphOf s)))
+  -- "elements past the written part hold what they held"
+  pub timetable-past :
+      (s : List ℕ) (turns : ℕ) (starts : List ℕ) →
+      (length (timetableAfter s turns starts) ≡ length starts) ×
+      ((i : ℕ) → tasksOf s * turns ≤ i → getD (timetableAfter s turns starts) i 0 ≡ getD starts i 0)
   -- ── Latency of the result of a proposal ──
   -- "Verdict: latency of the result": of a proposal that is accepted (by demand 3, exactly those that may be)
   pub result-latency :
-      r .outcome .number ≡ 0 → Latency (edges (result (graphOf s) (proposalOf p))) (timeOf (graphOf s)) (graphOf s .output) (r .latency)
+      (s p : List ℕ) (r : ProposalVerdict) → VerdictAnswer s p r → r .outcome .number ≡ 0 →
+      Latency (edges (result (graphOf s) (proposalOf p))) (timeOf (graphOf s)) (graphOf s .output) (r .latency)
   -- "and margin, which is bound minus latency", here not negative
-  pub margin : r .outcome .number ≡ 0 → r .margin ≡ pos (graphOf s .bound) -ℤ pos (r .latency)
-  pub in-time : r .outcome .number ≡ 0 → (r .latency ≤ graphOf s .bound) × (r .margin ≡ pos (graphOf s .bound - r .latency))
+  pub margin :
+      (s p : List ℕ) (r : ProposalVerdict) → VerdictAnswer s p r → r .outcome .number ≡ 0 →
+      r .margin ≡ pos (graphOf s .bound) -ℤ pos (r .latency)
+  pub in-time :
+      (s p : List ℕ) (r : ProposalVerdict) → VerdictAnswer s p r → r .outcome .number ≡ 0 →
+      (r .latency ≤ graphOf s .bound) × (r .margin ≡ pos (graphOf s .bound - r .latency))
   -- "15: late; latency and the negative margin are given"
   pub late-latency :
-      r .outcome .number ≡ 15 → Latency (edges (result (graphOf s) (proposalOf p))) (timeOf (graphOf s)) (graphOf s .output) (r .outcome .latency)
-  pub late-margin : r .outcome .number ≡ 15 → r .outcome .margin ≡ pos (graphOf s .bound) -ℤ pos (r .outcome .latency)
+      (s p : List ℕ) (r : ProposalVerdict) → VerdictAnswer s p r → r .outcome .number ≡ 15 →
+      Latency (edges (result (graphOf s) (proposalOf p))) (timeOf (graphOf s)) (graphOf s .output) (r .outcome .latency)
+  pub late-margin :
+      (s p : List ℕ) (r : ProposalVerdict) → VerdictAnswer s p r → r .outcome .number ≡ 15 →
+      r .outcome .margin ≡ pos (graphOf s .bound) -ℤ pos (r .outcome .latency)
   -- negative: `negsuc n` is −(n + 1)
   pub late-by :
-      r .outcome .number ≡ 15 →
+      (s p : List ℕ) (r : ProposalVerdict) → VerdictAnswer s p r → r .outcome .number ≡ 15 →
       (graphOf s .bound < r .outcome .latency) × (r .outcome .margin ≡ negsuc (r .outcome .latency - graphOf s .bound - 1))
-
--- Whatever the bytes, the turns and the lists, of every answer that the verdict's contract allows.
-abbrev pub Demand2Met : Type 0
-Demand2Met =
-    (s p : List ℕ) (turns : ℕ) (table starts : List ℕ) (r : ProposalVerdict) → VerdictAnswer s p r → Demand2 s p turns table starts r

@@ -3,3 +3,4 @@ pub mod Steps
 pub mod Round
 pub mod Row
 pub mod Table
+pub mod Paths

@@ -6,12 +6,25 @@ ghost use Prim.Native.Nat.{_*_, _≤_, _<_};
 ghost use lib.ListN.{length, drop};
 ghost use Rattle.model.specs.Lists.{tabulate};
 ghost use Rattle.model.specs.Tasks.{Edge, _∈_};
+ghost use Rattle.model.specs.Compute.{present, leastDelay};
 ghost use Rattle.records.specs.Columns.{edgesOf};
 ghost use Rattle.delays.specs.Delays.{delayRow, delayTable, Fit};
 ghost use Rattle.delays.specs.Rounds.{edge, Reached, Settled, Lowered};
 
+// Room for the least delays between 64 tasks.
+pub struct DelayTable {
+    pub delay: [u16; 4096],
+}
+
 // No path.
 const NONE: u16 = 65535;
+
+// A table to write into.
+pub fn blank_table() -> DelayTable
+    ensures { λ r. ⌜ length (r .delay) ≡ 4096 ⌝ }
+{
+    DelayTable { delay: [0; 4096] }
+}
 
 // A row in which no task is reached.
 fn clear(row: &mut [u16])
@@ -112,4 +125,12 @@ pub fn least_table<'a>(
         at += tasks;
         a += 1;
     }
+}
+
+// Whether a path leads from one task to another, by the table of least delays.
+pub fn has_path(table: &[u16], tasks: usize, from: usize, to: usize) -> bool
+    requires { ⌜ (tasks ≤ 64) × (from < tasks) × (to < tasks) × (length (now table) ≡ tasks * tasks) ⌝ }
+    ensures { λ r. ⌜ ((es : List Edge) → Fit tasks es → now (table .entry) ≡ delayTable tasks es → r ≡ present (leastDelay tasks es from to)) ⌝ }
+{
+    table[from * tasks + to] != NONE
 }

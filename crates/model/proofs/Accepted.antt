@@ -6,7 +6,7 @@ use mathlib.Core.List.{List}
 use Prim.Native.Nat.{ℕ, _≤_, _<_}
 use native.Mathlib.Nat.{le-refl, le-trans}
 use native.Mathlib.Omega.{arith}
-use Rattle.model.specs.Tasks.{Edge}
+use Rattle.model.specs.Tasks.{Edge, Ends}
 use Rattle.model.specs.Graph.{Graph, count, edges, timeOf, WellFormedEdges}
 use Rattle.model.specs.Paths.{NoneOnCycle, NoZeroCycle, Latency}
 use Rattle.model.specs.Runs.{Times, ends, RunsAllowed, Earliest, estimates, MissesBound}
@@ -69,15 +69,18 @@ accepted-result g proposed graph formed accepted =
       runs-allowed = (result-orders g proposed off) .0 (accepted .orders);
       never-stalls = result-never-stalls g proposed off;
       cycles = result-cycles g proposed off;
+      earliest-exists = λ K dur long.
+          (earliest (count g) (edges (result g proposed)) dur, earliest-run between-tasks (acyclic-result g proposed off) K dur long);
       in-time = λ K start dur h run short.
           let l = accepted .in-time in
-          le-trans
-          (first-output (result-ends g (off .sync-ends) proposed (off .proposed-ends)) (timeOf g) (g .output) (l .0) h (graph .formed .output-below) run short (l .1))
-          (l .2);
+          le-trans (first-output between-tasks (timeOf g) (g .output) (l .0) h (graph .formed .output-below) run short (l .1)) (l .2);
     }
   where
     off : OffCycles g proposed
     off = off-cycles-of g proposed graph formed (accepted .off-cycles)
+
+    between-tasks : Ends (count g) (edges (result g proposed))
+    between-tasks = result-ends g (off .sync-ends) proposed (off .proposed-ends)
 
 pub accepted-iff : AcceptedIff
 unfolding result timeOf latencyOf

@@ -192,12 +192,14 @@ ResultMisses =
     MissesBound (result g proposed) ↔ (g .bound < latencyOf (result g proposed))
 
 -- Demand 3 for the result of an accepted proposal: the original allows every run that the result allows; the result never stalls, has the
--- same cycles, and in its earliest run the output's first turn ends by the bound, whatever later turns take, if no first turn exceeds its
+-- same cycles and an earliest run, and in it the output's first turn ends by the bound, whatever later turns take, if no first turn exceeds its
 -- estimate.
 pub record Resynchronizes (g r : Graph) : Type 0 where
   pub runs-allowed : RunsAllowed (count g) (edges r) (edges g)
   pub never-stalls : NeverStalls (count g) (edges r)
   pub cycles : SameCycles (edges g) (edges r)
+  -- "if tasks start as early as allowed": they can, for every number of turns and all durations of at least one
+  pub earliest-exists : (K : ℕ) (dur : Times) → AtLeastOne (count g) K dur → (start : Times) × Earliest (count g) (edges r) K start dur
   pub in-time :
       (K : ℕ) (start dur : Times) → 1 ≤ K → Earliest (count g) (edges r) K start dur → ((v : ℕ) → v < count g → dur v 1 ≤ timeOf g v) →
       ends start dur (g .output) 1 ≤ g .bound

@@ -1,5 +1,4 @@
 -- The proofs that other crates may cite.
 pub mod Keeping
 pub mod Fronts
-pub mod Paths
 pub mod Results

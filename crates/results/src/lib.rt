@@ -2,15 +2,16 @@
 // proposed ones.
 ghost use mathlib.Core.Path.{_≡_};
 ghost use mathlib.Core.List.{List, _++_};
-ghost use Prim.Native.Nat.{_+_, _*_, _≤_, _<_};
+ghost use Prim.Native.Nat.{_+_, _≤_, _<_};
 ghost use lib.ListN.{length, set};
 ghost use Rattle.model.specs.Tasks.{Edge};
-ghost use Rattle.model.specs.Compute.{present, leastDelay};
 ghost use Rattle.records.specs.Columns.{edgesOf};
-ghost use Rattle.delays.specs.Delays.{delayTable, Fit};
+ghost use Rattle.delays.specs.Delays.{Fit};
+ghost use Rattle.reach.specs.Reach.{Reaches};
 ghost use Rattle.results.specs.Results.{cyclic, resultOf, HeldResult};
 ghost use Rattle.results.specs.Fronts.{HeldFront};
-use delays::least_table;
+use reach::leads_to;
+use reach::paths_between;
 
 // The edges of a result: the first `count` entries of the lists. 64 processor edges, 256 feedback edges and 256 proposed ones fit.
 pub struct ResultEdges {
@@ -18,21 +19,6 @@ pub struct ResultEdges {
     pub source: [u8; 576],
     pub sink: [u8; 576],
     pub delay: [u8; 576],
-}
-
-// Room for the least delays between 64 tasks.
-struct Table {
-    delay: [u16; 4096],
-}
-
-// No path.
-const NONE: u16 = 65535;
-
-// A table to write into.
-fn blank_table() -> Table
-    ensures { λ r. ⌜ length (r .delay) ≡ 4096 ⌝ }
-{
-    Table { delay: [0; 4096] }
 }
 
 // Lists to write into.
@@ -45,14 +31,6 @@ fn blank_lists() -> ResultEdges
         sink: [0; 576],
         delay: [0; 576],
     }
-}
-
-// Whether a path leads from one task to another, by the table of least delays.
-pub fn has_path(table: &[u16], tasks: usize, from: usize, to: usize) -> bool
-    requires { ⌜ (tasks ≤ 64) × (from < tasks) × (to < tasks) × (length (now table) ≡ tasks * tasks) ⌝ }
-    ensures { λ r. ⌜ ((es : List Edge) → Fit tasks es → now (table .entry) ≡ delayTable tasks es → r ≡ present (leastDelay tasks es from to)) ⌝ }
-{
-    table[from * tasks + to] != NONE
 }
 
 // Stores an edge at a place of three lists.
@@ -80,7 +58,7 @@ fn keep_cyclic<'a, 'b>(
     source: &'a [u8],
     sink: &'a [u8],
     delay: &'a [u8],
-    table: &'a [u16],
+    words: &'a [u64],
     tasks: usize,
     to_source: &'b mut [u8],
     to_sink: &'b mut [u8],
@@ -89,7 +67,7 @@ fn keep_cyclic<'a, 'b>(
     requires { ⌜ (length (now sink) ≡ length (now source)) × (length (now delay) ≡ length (now source)) ⌝ }
     requires { ⌜ (tasks ≤ 64) × (length (now source) ≤ 320) ⌝ }
     requires { ⌜ Fit tasks (edgesOf (now source) (now sink) (now delay)) ⌝ }
-    requires { ⌜ now table ≡ delayTable tasks (edgesOf (now source) (now sink) (now delay)) ⌝ }
+    requires { ⌜ Reaches tasks (edgesOf (now source) (now sink) (now delay)) (now words) ⌝ }
     requires { ⌜ (length (now «to_source») ≡ 576) × (length (now «to_sink») ≡ 576) × (length (now «to_delay») ≡ 576) ⌝ }
     ensures { λ r. ⌜ r ≤ 320 ⌝ }
     ensures { λ r. ⌜ HeldFront r (now («to_source» .exit)) (now («to_sink» .exit)) (now («to_delay» .exit)) (cyclic tasks (edgesOf (now (source .entry)) (now (sink .entry)) (now (delay .entry)))) ⌝ }
@@ -99,7 +77,7 @@ fn keep_cyclic<'a, 'b>(
     while j < source.len() {
         let s = source[j];
         let t = sink[j];
-        if has_path(table, tasks, t as usize, s as usize) {
+        if leads_to(words, t as usize, s as usize) {
             store(s, t, delay[j], kept, to_source, to_sink, to_delay);
             kept += 1;
         }
@@ -154,9 +132,8 @@ pub fn result_edges<'a>(
     requires { ⌜ Fit tasks (edgesOf (now source) (now sink) (now delay)) ⌝ }
     ensures { λ r. ⌜ HeldResult r (resultOf tasks (edgesOf (now (source .entry)) (now (sink .entry)) (now (delay .entry))) (edgesOf (now («proposed_source» .entry)) (now («proposed_sink» .entry)) (now («proposed_delay» .entry)))) ⌝ }
 {
-    let blank = blank_table();
-    let mut table = blank.delay;
-    least_table(source, sink, delay, tasks, &mut table);
+    let reach = paths_between(source, sink, tasks);
+    let words = reach.words;
     let lists = blank_lists();
     let mut to_source = lists.source;
     let mut to_sink = lists.sink;
@@ -165,7 +142,7 @@ pub fn result_edges<'a>(
         source,
         sink,
         delay,
-        &table[0..tasks * tasks],
+        &words,
         tasks,
         &mut to_source,
         &mut to_sink,

@@ -8,6 +8,7 @@ ghost use Rattle.resync.specs.Calls.{outcome, roomRefusal, turnsRefusal,
 use crate::GraphFigures;
 use crate::Outcome;
 use crate::RedundantSet;
+use delays::blank_table;
 use delays::least_table;
 use files::Refusal;
 use marks::Marks;
@@ -15,11 +16,6 @@ use marks::Places;
 use redundancy::redundant_marks;
 use schedule::accept;
 use starts::turns_into;
-
-// Room for the least delays between 64 tasks.
-struct Table {
-    delay: [u16; 4096],
-}
 
 const PASSED: Refusal = Refusal {
     number: 0,
@@ -35,13 +31,6 @@ const TURNS_OUTSIDE: Refusal = Refusal {
     number: 17,
     place: 0,
 };
-
-// A table to write into.
-fn blank_table() -> Table
-    ensures { λ r. ⌜ length (r .delay) ≡ 4096 ⌝ }
-{
-    Table { delay: [0; 4096] }
-}
 
 // No mark set.
 fn no_marks() -> Marks

@@ -9,22 +9,18 @@ ghost use Rattle.records.specs.Columns.{edgesOf, at};
 ghost use Rattle.delays.specs.Delays.{Fit};
 ghost use Rattle.verdicts.specs.Verdicts.{judgement, OpenPlace, Judgeable};
 ghost use Rattle.verdicts.specs.Tables.{TableOf, FoundCyclic, lostFrom};
+use delays::blank_table;
+use delays::has_path;
 use delays::least_table;
 use files::Refusal;
 use readings::GraphReading;
 use readings::ProposalReading;
-use results::has_path;
 use results::result_edges;
 
 // The verdict on proposed edges: the refusal, and the latency of the result if it is accepted or late, 0 otherwise.
 pub struct Judgement {
     pub refusal: Refusal,
     pub latency: u32,
-}
-
-// Room for the least delays between 64 tasks.
-struct Table {
-    delay: [u16; 4096],
 }
 
 const PASSED: Refusal = Refusal {
@@ -36,13 +32,6 @@ const LATE: Refusal = Refusal {
     number: 15,
     place: 0,
 };
-
-// A table to write into.
-fn blank_table() -> Table
-    ensures { λ r. ⌜ length (r .delay) ≡ 4096 ⌝ }
-{
-    Table { delay: [0; 4096] }
-}
 
 // The place of an edge that lies on a cycle, counted from 1, or 0 if none does: by the least delays of the graph that has them.
 fn cyclic_place<'a>(source: &'a [u8], sink: &'a [u8], table: &'a [u16], tasks: usize) -> u32

@@ -3,26 +3,25 @@ use mathlib.Core.Path.{_≡_, refl, sym, ap, _∙_}
 use mathlib.Core.Logic.{⊎-elim}
 use Prim.Native.Nat.{ℕ, _-_, _≤_}
 use native.Mathlib.Omega.{arith}
-use lib.ListN.{length}
+use lib.ListN.{length, getD}
 use Rattle.model.specs.Lists.{keep, tabulate}
 use Rattle.model.specs.Compute.{onCycle}
 use Rattle.records.specs.Columns.{heldEdge, edgesOf}
 use Rattle.records.proofs.Edges.{edge-in}
 use Rattle.results.specs.Fronts.{HeldFront}
 use Rattle.results.specs.Results.{cyclic}
-use Rattle.delays.proofs.Table.{table-length}
 use Rattle.results.proofs.Keeping.{keep-more, keep-same}
 use Rattle.results.proofs.Fronts.{held-none, held-more, held-same, tabulate-more}
 use Rattle.results.proofs.keep_cyclic.Statement.{statement}
 use Rattle.results.proofs.keep_cyclic.Tie as tie
 
 abbrev Inv-loop : tie.InvT-loop
-Inv-loop source sink delay table tasks to-source₀ to-sink₀ to-delay₀ kept₀ j₀ to-source to-sink to-delay kept j =
+Inv-loop source sink delay words tasks to-source₀ to-sink₀ to-delay₀ kept₀ j₀ to-source to-sink to-delay kept j =
     (j ≤ length source) × (kept ≤ j) ×
     HeldFront kept to-source to-sink to-delay (keep (onCycle tasks (edgesOf source sink delay)) (tabulate j (heldEdge source sink delay)))
 
 abbrev μ-loop : tie.MeasureT-loop
-μ-loop source sink delay table tasks to-source₀ to-sink₀ to-delay₀ kept₀ j₀ to-source to-sink to-delay kept j =
+μ-loop source sink delay words tasks to-source₀ to-sink₀ to-delay₀ kept₀ j₀ to-source to-sink to-delay kept j =
     length source - j
 
 loop-holds : tie.Need-loop-holds Inv-loop μ-loop
@@ -37,29 +36,27 @@ shared-slice-read-s c = omega arith
 shared-slice-read-t : tie.Need-shared-slice-read-t Inv-loop μ-loop
 shared-slice-read-t c = omega (arith, c .before .before .before .before .before .before .before .before .before .before .before .pre .0)
 
-cast-has-path : tie.Need-cast-has-path Inv-loop μ-loop
-cast-has-path c =
+cast-leads-to : tie.Need-cast-leads-to Inv-loop μ-loop
+cast-leads-to c =
     let j = c .before .before .before .loop .j in
     omega (arith, c .shared-slice-known6 .given j, c .before .shared-slice-known5 .given j)
 
-cast-has-path-2 : tie.Need-cast-has-path-2 Inv-loop μ-loop
-cast-has-path-2 c =
+cast-leads-to-2 : tie.Need-cast-leads-to-2 Inv-loop μ-loop
+cast-leads-to-2 c =
     let j = c .before .before .before .loop .j in
     omega (arith, c .shared-slice-known6 .given j, c .before .shared-slice-known5 .given j)
 
-has-path-requires : tie.Need-has-path-requires Inv-loop μ-loop
+leads-to-requires : tie.Need-leads-to-requires Inv-loop μ-loop
 unfolding heldEdge
-has-path-requires c κs =
+leads-to-requires c κs =
     let start = c .before .before .before .before .before .before .before .before .before .before .before in
     let source = start .args .source .now in
     let sink = start .args .sink .now in
     let delay = start .args .delay .now in
     let j = c .before .before .before .loop .j in
     let ends = start .pre .1 .1 .0 .ends (heldEdge source sink delay j) (edge-in source sink delay j (c .before .before .loop-test .taken)) in (
-      start .pre .1 .0 .0,
-      omega (arith, ends .0, ends .1),
-      omega (arith, ends .0, ends .1),
-      ap length (start .pre .1 .1 .1 .0) ∙ table-length (start .args .tasks) (edgesOf source sink delay),
+      omega (arith, ends .0, ends .1, start .pre .1 .0 .0, start .pre .1 .1 .1 .0 .room),
+      omega (arith, ends .0, ends .1, start .pre .1 .0 .0),
     )
 
 shared-slice-read-store : tie.Need-shared-slice-read-store Inv-loop μ-loop
@@ -93,7 +90,8 @@ loop-again c =
     let j = c .before .before .before .before .before .loop .j in
     let inv = c .before .before .before .before .before .loop .inv in
     let few = start .pre .1 .0 .1 in
-    let said = c .before .has-path .ensures es (start .pre .1 .1 .0) (start .pre .1 .1 .1 .0) in
+    let ends = start .pre .1 .1 .0 .ends (f j) (edge-in source sink delay j (c .before .before .before .before .loop-test .taken)) in
+    let said = c .before .leads-to .ensures ∙ start .pre .1 .1 .1 .0 .paths (getD sink j 0) (getD source j 0) (ends .1) (ends .0) in
     let next = ap (keep t) (tabulate-more f j) in (
       omega arith,
       ⊎-elim (λ w. omega (arith, w .15, inv .1)) (λ w. omega (arith, w .4, inv .1)) (c .if1 .came),
@@ -136,9 +134,9 @@ keep-cyclic-spec =
     loop-holds
     shared-slice-read-s
     shared-slice-read-t
-    cast-has-path
-    cast-has-path-2
-    has-path-requires
+    cast-leads-to
+    cast-leads-to-2
+    leads-to-requires
     shared-slice-read-store
     store-requires
     add-kept

@@ -1,4 +1,4 @@
--- `results::has_path` meets its contract: the entry stands within the table, and is 65,535 exactly where there is no least delay.
+-- `delays::has_path` meets its contract: the entry stands within the table, and is 65,535 exactly where there is no least delay.
 use mathlib.Core.Path.{ap, _∙_}
 use mathlib.Core.Bool.{not}
 use mathlib.Core.List.{List}
@@ -7,10 +7,10 @@ use native.Mathlib.Omega.{arith}
 use lib.Dec.{eqb}
 use lib.ListN.{getD}
 use Rattle.records.proofs.Rows.{place-within, product-small}
 use Rattle.delays.proofs.Table.{table-at}
-use Rattle.results.proofs.Paths.{path-by-entry}
-use Rattle.results.proofs.has_path.Statement.{statement}
-use Rattle.results.proofs.has_path.Tie as tie
+use Rattle.delays.proofs.Paths.{path-by-entry}
+use Rattle.delays.proofs.has_path.Statement.{statement}
+use Rattle.delays.proofs.has_path.Tie as tie
 
 -- an entry of a table of at most 64 rows stands among the first 4096
 place-small : (n from to : ℕ) → n ≤ 64 → from < n → to < n → from * n + to < 4096

@@ -1,0 +1,32 @@
+-- Only for contracts inside: words of 64 bits hold which tasks a path leads to.
+use mathlib.Core.Path.{_≡_}
+use mathlib.Core.Bool.{Bool, _||_, _&&_}
+use mathlib.Core.List.{List}
+use Prim.Native.Nat.{ℕ, _/_, _%_, _^_, _<_}
+use lib.Dec.{eqb}
+use lib.ListN.{length, getD}
+use Rattle.model.specs.Tasks.{Edge}
+use Rattle.model.specs.Compute.{present, leastDelay, through}
+
+-- bit b of a word is set, bit 0 the least significant
+unfoldable pub bit : ℕ → ℕ → Bool
+bit word b = eqb (word / 2 ^ b % 2) 1
+
+-- bit b of word a
+abbrev pub bitAt : List ℕ → ℕ → ℕ → Bool
+bitAt words a b = bit (getD words a 0) b
+
+-- bit b of word a says that a path of es leads from a to b, for the first n tasks
+pub record Reaches (n : ℕ) (es : List Edge) (words : List ℕ) : Type 0 where
+  pub room : length words ≡ 64
+  pub paths : (a b : ℕ) → a < n → b < n → bitAt words a b ≡ present (leastDelay n es a b)
+
+-- the same for the paths whose inner tasks are below k
+pub record Through (k n : ℕ) (es : List Edge) (words : List ℕ) : Type 0 where
+  pub room : length words ≡ 64
+  pub paths : (a b : ℕ) → a < n → b < n → bitAt words a b ≡ present (through es k a b)
+
+-- one round: where its bit k is set, each of the first n words has taken the bits of word k
+pub record Joined (n k : ℕ) (before after : List ℕ) : Type 0 where
+  pub room : length after ≡ 64
+  pub bits : (a b : ℕ) → a < n → bitAt after a b ≡ bitAt before a b || (bitAt before a k && bitAt before k b)
