@@ -1,4 +1,4 @@
--- `report::lines::put_accepted_line` meets its contract: the word, two fields and the newline.
+-- `report::lines::put_accepted_line` meets its contract: the word, two fields and the newline, each behind the one before.
 use mathlib.Core.Path.{ap}
 use mathlib.Core.List.{List, _∷_}
 use Prim.Native.Nat.{ℕ}
@@ -16,35 +16,66 @@ slice-aggregate-put-word : tie.Need-slice-aggregate-put-word
 slice-aggregate-put-word c = search needs
 
 put-word-requires : tie.Need-put-word-requires
-put-word-requires c κs = omega (arith, c .before .before .before .pre, accepted-length (c .before .before .before .args .verdict))
+put-word-requires c κs =
+    let s = c .before .before .before in
+    omega (arith, s .pre, accepted-length (s .args .verdict))
 
 put-field-requires : tie.Need-put-field-requires
 put-field-requires c κs =
-    let e0 = c .before .before .before .put-word .ensures in
-    omega (arith, c .before .before .before .before .before .before .before .pre, accepted-length (c .before .before .before .before .before .before .before .args .verdict), e0 .next-is, appending.same-length e0)
+    let c0 = c .before .before .before in
+    let e0 = c0 .put-word .ensures in
+    let s = c0 .before .before .before .before in
+    omega (arith, s .pre, accepted-length (s .args .verdict), e0 .next-is, appending.same-length e0)
 
 put-signed-field-requires : tie.Need-put-signed-field-requires
 put-signed-field-requires c κs =
-    let e0 = c .before .before .before .before .before .before .before .before .put-word .ensures in
-    let e1 = c .before .before .before .before .put-field .ensures in
-    let same = ap length (signed-kept (c .before .before .before .before .before .before .before .before .before .before .before .before .args .verdict .margin) (record { sfits = c .struct-told .given .1 .1 .0 .1 })) in
-    omega (arith, c .before .before .before .before .before .before .before .before .before .before .before .before .pre, accepted-length (c .before .before .before .before .before .before .before .before .before .before .before .before .args .verdict), e0 .next-is, appending.same-length e0, e1 .next-is, appending.same-length e1, same)
+    let c1 = c .before .before .before .before in
+    let e1 = c1 .put-field .ensures in
+    let c0 = c1 .before .before .before .before in
+    let e0 = c0 .put-word .ensures in
+    let s = c0 .before .before .before .before in
+    let same = ap length (signed-kept (s .args .verdict .margin) (record { sfits = c .struct-told .given .1 .1 .0 .1 })) in
+    omega (arith, s .pre, accepted-length (s .args .verdict), e0 .next-is, appending.same-length e0, e1 .next-is, appending.same-length e1, same)
 
 put-requires : tie.Need-put-requires
 put-requires c κs =
-    let e0 = c .before .before .before .before .before .before .before .before .before .before .before .before .put-word .ensures in
-    let e1 = c .before .before .before .before .before .before .before .before .put-field .ensures in
-    let e2 = c .before .before .before .put-signed-field .ensures in
-    let same = ap length (signed-kept (c .before .before .before .before .before .before .before .before .before .before .before .before .before .before .before .before .args .verdict .margin) (record { sfits = c .before .before .before .before .struct-told .given .1 .1 .0 .1 })) in
-    omega (arith, c .before .before .before .before .before .before .before .before .before .before .before .before .before .before .before .before .pre, accepted-length (c .before .before .before .before .before .before .before .before .before .before .before .before .before .before .before .before .args .verdict), e0 .next-is, appending.same-length e0, e1 .next-is, appending.same-length e1, e2 .next-is, appending.same-length e2, same)
+    let c2 = c .before .before .before in
+    let e2 = c2 .put-signed-field .ensures in
+    let m = c2 .before in
+    let c1 = m .before .before .before .before in
+    let e1 = c1 .put-field .ensures in
+    let c0 = c1 .before .before .before .before in
+    let e0 = c0 .put-word .ensures in
+    let s = c0 .before .before .before .before in
+    let same = ap length (signed-kept (s .args .verdict .margin) (record { sfits = m .struct-told .given .1 .1 .0 .1 })) in
+    omega (arith, s .pre, accepted-length (s .args .verdict), e0 .next-is, appending.same-length e0, e1 .next-is, appending.same-length e1, e2 .next-is, appending.same-length e2, same)
 
 same-length : tie.Need-same-length
 same-length c = search needs
 
 returns : tie.Need-returns
 returns c =
-    appending.renamed (accepted-pieces (c .before .before .before .before .before .before .before .before .before .before .before .before .before .before .before .before .before .before .before .args .verdict))
-    (appending.followed (appending.followed (appending.followed (c .before .before .before .before .before .before .before .before .before .before .before .before .before .before .before .put-word .ensures) (c .before .before .before .before .before .before .before .before .before .before .before .put-field .ensures)) (appending.renamed (ap (λ (z : List ℕ). space ∷ z) (signed-kept (c .before .before .before .before .before .before .before .before .before .before .before .before .before .before .before .before .before .before .before .args .verdict .margin) (record { sfits = c .before .before .before .before .before .before .before .struct-told .given .1 .1 .0 .1 }))) (c .before .before .before .before .before .before .put-signed-field .ensures))) (c .before .before .put .ensures))
+    let c3 = c .before .before in
+    let e3 = c3 .put .ensures in
+    let c2 = c3 .before .before .before .before in
+    let e2 = c2 .put-signed-field .ensures in
+    let m = c2 .before in
+    let c1 = m .before .before .before .before in
+    let e1 = c1 .put-field .ensures in
+    let c0 = c1 .before .before .before .before in
+    let e0 = c0 .put-word .ensures in
+    let s = c0 .before .before .before .before in
+    let same = signed-kept (s .args .verdict .margin) (record { sfits = m .struct-told .given .1 .1 .0 .1 }) in
+    appending.renamed (accepted-pieces (s .args .verdict)) (appending.followed (appending.followed (appending.followed e0 e1) (appending.renamed (ap (λ (z : List ℕ). space ∷ z) same) e2)) e3)
 
 pub put-accepted-line-spec : {M : Type 1} → statement M
-put-accepted-line-spec = tie.close (tie.spec slice-aggregate-put-word put-word-requires put-field-requires put-signed-field-requires put-requires same-length returns)
+put-accepted-line-spec =
+    tie.close
+    (tie.spec
+    slice-aggregate-put-word
+    put-word-requires
+    put-field-requires
+    put-signed-field-requires
+    put-requires
+    same-length
+    returns)

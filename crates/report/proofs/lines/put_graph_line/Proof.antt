@@ -10,41 +10,77 @@ slice-aggregate-put-word : tie.Need-slice-aggregate-put-word
 slice-aggregate-put-word c = search needs
 
 put-word-requires : tie.Need-put-word-requires
-put-word-requires c κs = omega (arith, c .before .before .before .pre, graph-length (c .before .before .before .args .figures))
+put-word-requires c κs =
+    let s = c .before .before .before in
+    omega (arith, s .pre, graph-length (s .args .figures))
 
 put-field-requires : tie.Need-put-field-requires
 put-field-requires c κs =
-    let e0 = c .before .before .before .put-word .ensures in
-    omega (arith, c .before .before .before .before .before .before .before .pre, graph-length (c .before .before .before .before .before .before .before .args .figures), e0 .next-is, appending.same-length e0)
+    let c0 = c .before .before .before in
+    let e0 = c0 .put-word .ensures in
+    let s = c0 .before .before .before .before in
+    omega (arith, s .pre, graph-length (s .args .figures), e0 .next-is, appending.same-length e0)
 
 put-field-requires-2 : tie.Need-put-field-requires-2
 put-field-requires-2 c κs =
-    let e0 = c .before .before .before .before .before .before .before .put-word .ensures in
-    let e1 = c .before .before .before .put-field .ensures in
-    omega (arith, c .before .before .before .before .before .before .before .before .before .before .before .pre, graph-length (c .before .before .before .before .before .before .before .before .before .before .before .args .figures), e0 .next-is, appending.same-length e0, e1 .next-is, appending.same-length e1)
+    let c1 = c .before .before .before in
+    let e1 = c1 .put-field .ensures in
+    let c0 = c1 .before .before .before .before in
+    let e0 = c0 .put-word .ensures in
+    let s = c0 .before .before .before .before in
+    omega (arith, s .pre, graph-length (s .args .figures), e0 .next-is, appending.same-length e0, e1 .next-is, appending.same-length e1)
 
 put-field-requires-3 : tie.Need-put-field-requires-3
 put-field-requires-3 c κs =
-    let e0 = c .before .before .before .before .before .before .before .before .before .before .before .put-word .ensures in
-    let e1 = c .before .before .before .before .before .before .before .put-field .ensures in
-    let e2 = c .before .before .before .put-field2 .ensures in
-    omega (arith, c .before .before .before .before .before .before .before .before .before .before .before .before .before .before .before .pre, graph-length (c .before .before .before .before .before .before .before .before .before .before .before .before .before .before .before .args .figures), e0 .next-is, appending.same-length e0, e1 .next-is, appending.same-length e1, e2 .next-is, appending.same-length e2)
+    let c2 = c .before .before .before in
+    let e2 = c2 .put-field2 .ensures in
+    let c1 = c2 .before .before .before .before in
+    let e1 = c1 .put-field .ensures in
+    let c0 = c1 .before .before .before .before in
+    let e0 = c0 .put-word .ensures in
+    let s = c0 .before .before .before .before in
+    omega (arith, s .pre, graph-length (s .args .figures), e0 .next-is, appending.same-length e0, e1 .next-is, appending.same-length e1, e2 .next-is, appending.same-length e2)
 
 put-requires : tie.Need-put-requires
 put-requires c κs =
-    let e0 = c .before .before .before .before .before .before .before .before .before .before .before .before .before .before .before .put-word .ensures in
-    let e1 = c .before .before .before .before .before .before .before .before .before .before .before .put-field .ensures in
-    let e2 = c .before .before .before .before .before .before .before .put-field2 .ensures in
-    let e3 = c .before .before .before .put-field3 .ensures in
-    omega (arith, c .before .before .before .before .before .before .before .before .before .before .before .before .before .before .before .before .before .before .before .pre, graph-length (c .before .before .before .before .before .before .before .before .before .before .before .before .before .before .before .before .before .before .before .args .figures), e0 .next-is, appending.same-length e0, e1 .next-is, appending.same-length e1, e2 .next-is, appending.same-length e2, e3 .next-is, appending.same-length e3)
+    let c3 = c .before .before .before in
+    let e3 = c3 .put-field3 .ensures in
+    let c2 = c3 .before .before .before .before in
+    let e2 = c2 .put-field2 .ensures in
+    let c1 = c2 .before .before .before .before in
+    let e1 = c1 .put-field .ensures in
+    let c0 = c1 .before .before .before .before in
+    let e0 = c0 .put-word .ensures in
+    let s = c0 .before .before .before .before in
+    omega (arith, s .pre, graph-length (s .args .figures), e0 .next-is, appending.same-length e0, e1 .next-is, appending.same-length e1, e2 .next-is, appending.same-length e2, e3 .next-is, appending.same-length e3)
 
 same-length : tie.Need-same-length
 same-length c = search needs
 
 returns : tie.Need-returns
 returns c =
-    appending.renamed (graph-pieces (c .before .before .before .before .before .before .before .before .before .before .before .before .before .before .before .before .before .before .before .before .before .before .args .figures))
-    (appending.followed (appending.followed (appending.followed (appending.followed (c .before .before .before .before .before .before .before .before .before .before .before .before .before .before .before .before .before .before .put-word .ensures) (c .before .before .before .before .before .before .before .before .before .before .before .before .before .before .put-field .ensures)) (c .before .before .before .before .before .before .before .before .before .before .put-field2 .ensures)) (c .before .before .before .before .before .before .put-field3 .ensures)) (c .before .before .put .ensures))
+    let c4 = c .before .before in
+    let e4 = c4 .put .ensures in
+    let c3 = c4 .before .before .before .before in
+    let e3 = c3 .put-field3 .ensures in
+    let c2 = c3 .before .before .before .before in
+    let e2 = c2 .put-field2 .ensures in
+    let c1 = c2 .before .before .before .before in
+    let e1 = c1 .put-field .ensures in
+    let c0 = c1 .before .before .before .before in
+    let e0 = c0 .put-word .ensures in
+    let s = c0 .before .before .before .before in
+    appending.renamed (graph-pieces (s .args .figures)) (appending.followed (appending.followed (appending.followed (appending.followed e0 e1) e2) e3) e4)
 
 pub put-graph-line-spec : {M : Type 1} → statement M
-put-graph-line-spec = tie.close (tie.spec slice-aggregate-put-word put-word-requires put-field-requires put-field-requires-2 put-field-requires-3 put-requires same-length returns)
+put-graph-line-spec =
+    tie.close
+    (tie.spec
+    slice-aggregate-put-word
+    put-word-requires
+    put-field-requires
+    put-field-requires-2
+    put-field-requires-3
+    put-requires
+    same-length
+    returns)

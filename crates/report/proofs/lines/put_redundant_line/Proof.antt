@@ -1,5 +1,5 @@
--- `report::lines::put_redundant_line` meets its contract: the word, the count, the places of the marks and the newline. The lent front of the list of
--- places holds just these.
+-- `report::lines::put_redundant_line` meets its contract: the word, the count, the places of the marks and the newline, each behind the
+-- one before. The lent front of the list of places holds just these places.
 use mathlib.Core.Path.{ap}
 use mathlib.Core.List.{List}
 use Prim.Native.Nat.{ℕ}
@@ -23,12 +23,16 @@ slice-aggregate-put-word : tie.Need-slice-aggregate-put-word
 slice-aggregate-put-word c = search needs
 
 put-word-requires : tie.Need-put-word-requires
-put-word-requires c κs = omega (arith, c .before .before .before .before .before .before .before .pre, redundant-length (c .before .before .before .before .before .before .before .args .set))
+put-word-requires c κs =
+    let s = c .before .before .before .before .before .before .before in
+    omega (arith, s .pre, redundant-length (s .args .set))
 
 put-field-requires : tie.Need-put-field-requires
 put-field-requires c κs =
-    let e0 = c .before .before .before .put-word .ensures in
-    omega (arith, c .before .before .before .before .before .before .before .before .before .before .before .pre, redundant-length (c .before .before .before .before .before .before .before .before .before .before .before .args .set), e0 .next-is, appending.same-length e0)
+    let c0 = c .before .before .before in
+    let e0 = c0 .put-word .ensures in
+    let s = c0 .before .before .before .before .before .before .before .before in
+    omega (arith, s .pre, redundant-length (s .args .set), e0 .next-is, appending.same-length e0)
 
 sub-put-fields : tie.Need-sub-put-fields
 sub-put-fields c = search needs
@@ -37,35 +41,51 @@ part-put-fields-start : tie.Need-part-put-fields-start
 part-put-fields-start c = search needs
 
 part-put-fields-end : tie.Need-part-put-fields-end
-part-put-fields-end c = places-within (c .before .before .before .before .before .before .before .before .before .before .before .before .before .before .before .before .args .set .marks) (c .before .before .before .before .before .before .before .before .before .before .before .before .before .places .result) (c .before .before .before .before .before .before .before .before .before .before .before .before .before .places .ensures)
+part-put-fields-end c =
+    let l = c .before .before .before .before .before .before .before .before .before .before .before .before .before in
+    places-within (l .before .before .before .args .set .marks) (l .places .result) (l .places .ensures)
 
 put-fields-requires : tie.Need-put-fields-requires
 put-fields-requires c κs =
-    let e0 = c .before .before .before .before .before .before .before .before .before .put-word .ensures in
-    let e1 = c .before .before .before .before .before .put-field .ensures in
-    let same = ap (λ (z : List ℕ). length (spaced (numbers z))) (places-front (c .before .before .before .before .before .before .before .before .before .before .before .before .before .before .before .before .before .args .set .marks) (c .before .before .before .before .before .before .before .before .before .before .before .before .before .before .places .result) (c .before .before .before .before .before .before .before .before .before .before .before .before .before .before .places .ensures)) in
-    omega (arith, c .before .before .before .before .before .before .before .before .before .before .before .before .before .before .before .before .before .pre, redundant-length (c .before .before .before .before .before .before .before .before .before .before .before .before .before .before .before .before .before .args .set), e0 .next-is, appending.same-length e0, e1 .next-is, appending.same-length e1, same)
+    let c1 = c .before .before .before .before .before in
+    let e1 = c1 .put-field .ensures in
+    let c0 = c1 .before .before .before .before in
+    let e0 = c0 .put-word .ensures in
+    let l = c0 .before .before .before .before .before in
+    let s = l .before .before .before in
+    let same = ap (λ (z : List ℕ). length (spaced (numbers z))) (places-front (s .args .set .marks) (l .places .result) (l .places .ensures)) in
+    omega (arith, s .pre, redundant-length (s .args .set), e0 .next-is, appending.same-length e0, e1 .next-is, appending.same-length e1, same)
 
 put-requires : tie.Need-put-requires
 put-requires c κs =
-    let e0 = c .before .before .before .before .before .before .before .before .before .before .before .before .before .put-word .ensures in
-    let e1 = c .before .before .before .before .before .before .before .before .before .put-field .ensures in
-    let e2 = c .before .before .before .put-fields .ensures in
-    let same = ap (λ (z : List ℕ). length (spaced (numbers z))) (places-front (c .before .before .before .before .before .before .before .before .before .before .before .before .before .before .before .before .before .before .before .before .before .args .set .marks) (c .before .before .before .before .before .before .before .before .before .before .before .before .before .before .before .before .before .before .places .result) (c .before .before .before .before .before .before .before .before .before .before .before .before .before .before .before .before .before .before .places .ensures)) in
-    omega (arith, c .before .before .before .before .before .before .before .before .before .before .before .before .before .before .before .before .before .before .before .before .before .pre, redundant-length (c .before .before .before .before .before .before .before .before .before .before .before .before .before .before .before .before .before .before .before .before .before .args .set), e0 .next-is, appending.same-length e0, e1 .next-is, appending.same-length e1, e2 .next-is, appending.same-length e2, same)
+    let c2 = c .before .before .before in
+    let e2 = c2 .put-fields .ensures in
+    let c1 = c2 .before .before .before .before .before .before in
+    let e1 = c1 .put-field .ensures in
+    let c0 = c1 .before .before .before .before in
+    let e0 = c0 .put-word .ensures in
+    let l = c0 .before .before .before .before .before in
+    let s = l .before .before .before in
+    let same = ap (λ (z : List ℕ). length (spaced (numbers z))) (places-front (s .args .set .marks) (l .places .result) (l .places .ensures)) in
+    omega (arith, s .pre, redundant-length (s .args .set), e0 .next-is, appending.same-length e0, e1 .next-is, appending.same-length e1, e2 .next-is, appending.same-length e2, same)
 
 same-length : tie.Need-same-length
 same-length c = search needs
 
 returns : tie.Need-returns
 returns c =
-    let same = ap (λ (z : List ℕ). spaced (numbers z)) (places-front (c .before .before .before .before .before .before .before .before .before .before .before .before .before .before .before .before .before .before .before .before .before .before .before .before .args .set .marks) (c .before .before .before .before .before .before .before .before .before .before .before .before .before .before .before .before .before .before .before .before .before .places .result) (c .before .before .before .before .before .before .before .before .before .before .before .before .before .before .before .before .before .before .before .before .before .places .ensures)) in
-    appending.renamed (redundant-pieces (c .before .before .before .before .before .before .before .before .before .before .before .before .before .before .before .before .before .before .before .before .before .before .before .before .args .set))
-    (appending.followed
-    (appending.followed
-    (appending.followed (c .before .before .before .before .before .before .before .before .before .before .before .before .before .before .before .before .put-word .ensures) (c .before .before .before .before .before .before .before .before .before .before .before .before .put-field .ensures))
-    (appending.renamed same (c .before .before .before .before .before .before .put-fields .ensures)))
-    (c .before .before .put .ensures))
+    let c3 = c .before .before in
+    let e3 = c3 .put .ensures in
+    let c2 = c3 .before .before .before .before in
+    let e2 = c2 .put-fields .ensures in
+    let c1 = c2 .before .before .before .before .before .before in
+    let e1 = c1 .put-field .ensures in
+    let c0 = c1 .before .before .before .before in
+    let e0 = c0 .put-word .ensures in
+    let l = c0 .before .before .before .before .before in
+    let s = l .before .before .before in
+    let same = places-front (s .args .set .marks) (l .places .result) (l .places .ensures) in
+    appending.renamed (redundant-pieces (s .args .set)) (appending.followed (appending.followed (appending.followed e0 e1) (appending.renamed (ap (λ (z : List ℕ). spaced (numbers z)) same) e2)) e3)
 
 pub put-redundant-line-spec : {M : Type 1} → statement M
 put-redundant-line-spec =

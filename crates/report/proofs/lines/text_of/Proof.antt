@@ -17,54 +17,75 @@ slice-aggregate-put-refused-line c = search needs
 
 put-refused-line-requires : tie.Need-put-refused-line-requires
 put-refused-line-requires c κs =
-    let a = c .before .before .before .before .before .before .args in
-    let room : length (c .before .before .before .before .before .blank .result .bytes) ≡ 1024 = ap length (c .before .before .before .before .before .blank .ensures) ∙ length-replicate {A = ℕ} 1024 0 in
-    omega (arith, c .before .before .before .before .before .before .pre, room, ap length (printed-refused (a .figures) (a .set) (a .verdict) (c .before .if1 .taken)))
+    let t = c .before in
+    let z = t .before .before .before .before in
+    let s = z .before in
+    let room : length (z .blank .result .bytes) ≡ 1024 = ap length (z .blank .ensures) ∙ length-replicate {A = ℕ} 1024 0 in
+    omega (arith, s .pre, room, ap length (printed-refused (s .args .figures) (s .args .set) (s .args .verdict) (t .if1 .taken)))
 
 returns : tie.Need-returns
 returns c =
-    let a = c .before .before .before .before .before .before .before .before .args in
-    text-whole (c .before .before .before .before .before .before .before .blank .ensures)
-    (appending.renamed (printed-refused (a .figures) (a .set) (a .verdict) (c .before .before .before .if1 .taken)) (c .before .put-refused-line .ensures))
+    let t = c .before .before .before in
+    let z = t .before .before .before .before in
+    let s = z .before in
+    text-whole (z .blank .ensures)
+    (appending.renamed (printed-refused (s .args .figures) (s .args .set) (s .args .verdict) (t .if1 .taken)) (c .before .put-refused-line .ensures))
 
 slice-aggregate-put-graph-line : tie.Need-slice-aggregate-put-graph-line
 slice-aggregate-put-graph-line c = search needs
 
 put-graph-line-requires : tie.Need-put-graph-line-requires
 put-graph-line-requires c κs =
-    let room : length (c .before .before .before .before .before .blank .result .bytes) ≡ 1024 = ap length (c .before .before .before .before .before .blank .ensures) ∙ length-replicate {A = ℕ} 1024 0 in
-    let long = whole-length (c .before .before .before .before .before .before .args .figures) (c .before .before .before .before .before .before .args .set) (c .before .before .before .before .before .before .args .verdict) (c .before .if1 .left) in
-    omega (arith, c .before .before .before .before .before .before .pre, room, long)
+    let t = c .before in
+    let z = t .before .before .before .before in
+    let s = z .before in
+    let room : length (z .blank .result .bytes) ≡ 1024 = ap length (z .blank .ensures) ∙ length-replicate {A = ℕ} 1024 0 in
+    let long = whole-length (s .args .figures) (s .args .set) (s .args .verdict) (t .if1 .left) in
+    omega (arith, s .pre, room, long)
 
 slice-aggregate-put-redundant-line : tie.Need-slice-aggregate-put-redundant-line
 slice-aggregate-put-redundant-line c = search needs
 
 put-redundant-line-requires : tie.Need-put-redundant-line-requires
 put-redundant-line-requires c κs =
-    let room : length (c .before .before .before .before .before .before .before .before .blank .result .bytes) ≡ 1024 = ap length (c .before .before .before .before .before .before .before .before .blank .ensures) ∙ length-replicate {A = ℕ} 1024 0 in
-    let long = whole-length (c .before .before .before .before .before .before .before .before .before .args .figures) (c .before .before .before .before .before .before .before .before .before .args .set) (c .before .before .before .before .before .before .before .before .before .args .verdict) (c .before .before .before .before .if1 .left) in
-    let e0 = c .before .before .put-graph-line .ensures in
-    omega (arith, c .before .before .before .before .before .before .before .before .before .pre, room, long, e0 .next-is, appending.same-length e0)
+    let c1 = c .before .before in
+    let t = c1 .before .before in
+    let z = t .before .before .before .before in
+    let s = z .before in
+    let room : length (z .blank .result .bytes) ≡ 1024 = ap length (z .blank .ensures) ∙ length-replicate {A = ℕ} 1024 0 in
+    let long = whole-length (s .args .figures) (s .args .set) (s .args .verdict) (t .if1 .left) in
+    let e0 = c1 .put-graph-line .ensures in
+    omega (arith, s .pre, room, long, e0 .next-is, appending.same-length e0)
 
 slice-aggregate-put-verdict-line : tie.Need-slice-aggregate-put-verdict-line
 slice-aggregate-put-verdict-line c = search needs
 
 put-verdict-line-requires : tie.Need-put-verdict-line-requires
 put-verdict-line-requires c κs =
-    let room : length (c .before .before .before .before .before .before .before .before .before .before .before .blank .result .bytes) ≡ 1024 = ap length (c .before .before .before .before .before .before .before .before .before .before .before .blank .ensures) ∙ length-replicate {A = ℕ} 1024 0 in
-    let long = whole-length (c .before .before .before .before .before .before .before .before .before .before .before .before .args .figures) (c .before .before .before .before .before .before .before .before .before .before .before .before .args .set) (c .before .before .before .before .before .before .before .before .before .before .before .before .args .verdict) (c .before .before .before .before .before .before .before .if1 .left) in
-    let e0 = c .before .before .before .before .before .put-graph-line .ensures in
-    let e1 = c .before .before .put-redundant-line .ensures in
-    omega (arith, c .before .before .before .before .before .before .before .before .before .before .before .before .pre, room, long, e0 .next-is, appending.same-length e0, e1 .next-is, appending.same-length e1)
+    let c2 = c .before .before in
+    let c1 = c2 .before .before .before in
+    let t = c1 .before .before in
+    let z = t .before .before .before .before in
+    let s = z .before in
+    let room : length (z .blank .result .bytes) ≡ 1024 = ap length (z .blank .ensures) ∙ length-replicate {A = ℕ} 1024 0 in
+    let long = whole-length (s .args .figures) (s .args .set) (s .args .verdict) (t .if1 .left) in
+    let e0 = c1 .put-graph-line .ensures in
+    let e1 = c2 .put-redundant-line .ensures in
+    omega (arith, s .pre, room, long, e0 .next-is, appending.same-length e0, e1 .next-is, appending.same-length e1)
 
 returns-2 : tie.Need-returns-2
 returns-2 c =
-    let a = c .before .before .before .before .before .before .before .before .before .before .before .before .before .before .args in
-    text-whole (c .before .before .before .before .before .before .before .before .before .before .before .before .before .blank .ensures)
-    (appending.renamed (printed-lines (a .figures) (a .set) (a .verdict) (c .before .before .before .before .before .before .before .before .before .if1 .left))
+    let c3 = c .before in
+    let c2 = c3 .before .before .before in
+    let c1 = c2 .before .before .before in
+    let t = c1 .before .before in
+    let z = t .before .before .before .before in
+    let s = z .before in
+    text-whole (z .blank .ensures)
+    (appending.renamed (printed-lines (s .args .figures) (s .args .set) (s .args .verdict) (t .if1 .left))
     (appending.followed
-    (appending.followed (c .before .before .before .before .before .before .before .put-graph-line .ensures) (c .before .before .before .before .put-redundant-line .ensures))
-    (c .before .put-verdict-line .ensures)))
+    (appending.followed (c1 .put-graph-line .ensures) (c2 .put-redundant-line .ensures))
+    (c3 .put-verdict-line .ensures)))
 
 pub text-of-spec : {M : Type 1} → statement M
 text-of-spec =
