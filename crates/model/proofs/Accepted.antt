@@ -37,7 +37,7 @@ misses-bound-iff g bounds acyclic long o = (late, misses)
         let run = earliest-run (graph-ends g bounds) acyclic 1 (estimates (timeOf g)) (λ v k l i i′. long v l) in
         (earliest (count g) (edges g) (estimates (timeOf g)), run, subst (λ (x : ℕ). g .bound < x) (sym (value run)) h)
 
-acyclic-result : (g : Graph) (proposed : List Edge) → OffCycles g proposed → NoZeroCycle (edges (result g proposed))
+pub acyclic-result : (g : Graph) (proposed : List Edge) → OffCycles g proposed → NoZeroCycle (edges (result g proposed))
 acyclic-result g proposed h = result-acyclic g (h .sync-ends) proposed (h .proposed-ends) (h .off-cycles) (h .no-zero-cycle)
 
 pub result-never-stalls : ResultNeverStalls
@@ -58,7 +58,7 @@ result-misses g proposed h long o =
     (acyclic-result g proposed h) long o
 
 -- what an accepted graph and a well-formed proposal give, once its edges lie on no cycle
-off-cycles-of : (g : Graph) (proposed : List Edge) → AcceptedGraph g → WellFormedEdges (count g) proposed →
+pub off-cycles-of : (g : Graph) (proposed : List Edge) → AcceptedGraph g → WellFormedEdges (count g) proposed →
     NoneOnCycle (edges (result g proposed)) proposed → OffCycles g proposed
 off-cycles-of g proposed graph formed off =
     record { sync-ends = graph .formed .syncs-formed .ends; proposed-ends = formed .ends; no-zero-cycle = graph .no-zero-cycle; off-cycles = off }

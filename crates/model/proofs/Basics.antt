@@ -80,7 +80,7 @@ module _ {A : Type 0} where
   put-there true x m = there m
   put-there false x m = m
 
-  put-out : (b : Bool) {e x : A} {xs : List A} → List·Memᴰ e (put b x xs) → ((e ≡ x) × T b) ⊎ List·Memᴰ e xs
+  pub put-out : (b : Bool) {e x : A} {xs : List A} → List·Memᴰ e (put b x xs) → ((e ≡ x) × T b) ⊎ List·Memᴰ e xs
   unfolding put
   put-out true (here q) = inl (q, tt)
   put-out true (there m) = inr m

@@ -15,8 +15,9 @@ use Rattle.model.specs.Paths.{AllHeld, NoneOnCycle, OrderHeld, NoZeroCyc
 use Rattle.model.specs.Runs.{MissesBound}
 use Rattle.model.specs.Compute.{leastDelay, isRedundant, onCycle, zeroCycle, orderHolds, inputFree, joined, distinct, earliest, latencyOf}
 use Rattle.model.specs.Proposals.{AcceptedGraph, AcceptedProposal, result, dropping}
+use Rattle.model.specs.Plan.{planOf, planLatency}
 use Rattle.model.specs.Theorems.{Decides, OffCycles, Resynchronizes}
-use Rattle.model.specs.Example.{edge, deskBound, desk, proposal, looped, DeskOnCycle, DeskEmptyLoses, DeskFirstOnlyLoses, DeskDelayedLoses, DeskLate, DeskDelays, DeskEdges, DeskRedundant, DeskLatency, DeskStarts, DeskResult, ResultLatency}
+use Rattle.model.specs.Example.{edge, deskBound, desk, proposal, looped, DeskOnCycle, DeskEmptyLoses, DeskFirstOnlyLoses, DeskDelayedLoses, DeskLate, DeskDelays, DeskEdges, DeskRedundant, DeskLatency, DeskStarts, DeskResult, ResultLatency, DeskPlan, DeskPlanAtNine}
 use Rattle.model.proofs.Basics.{all-below, every-out, eq→eqb, and-left, and-right}
 use Rattle.model.proofs.Graphs.{sync-edge-in, graph-ends, graph-serial}
 use Rattle.model.proofs.Results.{result-ends, result-proposed}
@@ -198,3 +199,11 @@ desk-late = (λ m. lt-irrefl 10 ((late-iff 10) .0 m), (late-iff 9) .1 (lit< tt))
 -- edge 3 of the desk is redundant, and can be dropped
 pub desk-thinned : AllHeld (edges (dropping desk (isRedundant desk))) (edges desk)
 desk-thinned = dropped-together desk desk-ends desk-acyclic desk-distinct (isRedundant desk) (λ i l t. (redundant-is desk desk-ends i) .if-true t)
+
+pub desk-plan : DeskPlan
+unfolding edges processorEdges timeOf planOf planLatency
+desk-plan = (refl, refl)
+
+pub desk-plan-at-nine : DeskPlanAtNine
+unfolding edges processorEdges timeOf planOf planLatency
+desk-plan-at-nine = (refl, refl)

@@ -16,5 +16,9 @@ pub mod Redundant
 pub mod Results
 pub mod Accepted
 pub mod Theorems
+pub mod Pairs
+pub mod Choices
+pub mod Stages
+pub mod Plans
 pub mod Example
 pub mod Needed

@@ -11,6 +11,7 @@ use Rattle.model.specs.Paths.{NoZeroCycle, OnCycle, OrderHeld, AllHeld, 
 use Rattle.model.specs.Runs.{RunsAllowed, SomeRunBreaks, MissesBound, estimates}
 use Rattle.model.specs.Compute.{leastDelay, isRedundant, earliest, latencyOf}
 use Rattle.model.specs.Proposals.{result, dropping}
+use Rattle.model.specs.Plan.{planOf, planLatency}
 
 abbrev pub task : ℕ → ℕ → Task
 task p t = record { processor = p; time = t }
@@ -113,3 +114,11 @@ EqualEdgesNeedRefusal = Redundant twins 0 × Redundant twins 1 × (OrderHeld (ed
 abbrev pub SerialIsNeeded : Type 0
 SerialIsNeeded =
     ((n : ℕ) (es rs : List Edge) → Ends n rs → NoZeroCycle rs → AllHeld rs es → RunsAllowed n rs es) → ⊥
+
+-- "plan: 1→2, one step, latency 10"
+abbrev pub DeskPlan : Type 0
+DeskPlan = (planOf desk ≡ record { list = edge 1 2 0 ∷ []; steps = 1 }) × (planLatency desk ≡ 10)
+
+-- "at bound 9: 0→2, 1→3, no step"
+abbrev pub DeskPlanAtNine : Type 0
+DeskPlanAtNine = (planOf (deskBound 9) ≡ record { list = edge 0 2 0 ∷ edge 1 3 0 ∷ []; steps = 0 }) × (planLatency (deskBound 9) ≡ 9)

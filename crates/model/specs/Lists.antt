@@ -47,6 +47,11 @@ module _ {A : Type 0} where
   biggest f [] = 0
   biggest f (x ∷ xs) = max (f x) (biggest f xs)
 
+-- the largest f v over the numbers v below n, 0 over none
+unfoldable pub biggestBelow : ℕ → (ℕ → ℕ) → ℕ
+biggestBelow zero f = 0
+biggestBelow (suc n) f = max (biggestBelow n f) (f n)
+
 -- some number below n passes the test
 unfoldable pub anyBelow : ℕ → (ℕ → Bool) → Bool
 anyBelow zero t = false
