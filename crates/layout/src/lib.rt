@@ -94,6 +94,7 @@ pub fn task_at(bytes: &[u8], position: usize) -> TaskRecord
 }
 
 // An edge's record: source 6 bits, sink 6, delay 8.
+#[repr(C)]
 pub struct EdgeRecord {
     pub source: u8,
     pub sink: u8,

@@ -23,6 +23,10 @@ place-within w m a b l k =
 pub product-small : (a b : ℕ) → a ≤ 64 → b ≤ 64 → a * b ≤ 4096
 product-small a b few narrow = mul-le-mul few narrow
 
+-- an entry of a table of at most 64 rows stands among the first 4096
+pub place-small : (n a b : ℕ) → n ≤ 64 → a < n → b < n → a * n + b < 4096
+place-small n a b few l k = omega (arith, place-within n n a b l k, product-small n n few few)
+
 module _ (w : ℕ) (f : ℕ → List ℕ) (wide : (a : ℕ) → length (f a) ≡ w) where
   pub rows-length : (n : ℕ) → length (rows n f) ≡ n * w
   unfolding rows

@@ -6,15 +6,11 @@ use Prim.Native.Nat.{ℕ, _+_, _*_, _<_, _≤_}
 use native.Mathlib.Omega.{arith}
 use lib.Dec.{eqb}
 use lib.ListN.{getD}
-use Rattle.records.proofs.Rows.{place-within, product-small}
+use Rattle.records.proofs.Rows.{place-within, place-small}
 use Rattle.delays.proofs.Table.{table-at}
 use Rattle.delays.proofs.Paths.{path-by-entry}
 use Rattle.delays.proofs.has_path.Statement.{statement}
 use Rattle.delays.proofs.has_path.Tie as tie
-
--- an entry of a table of at most 64 rows stands among the first 4096
-place-small : (n from to : ℕ) → n ≤ 64 → from < n → to < n → from * n + to < 4096
-place-small n from to few l k = omega (arith, place-within n n from to l k, product-small n n few few)
 
 mul-result : tie.Need-mul-result
 mul-result c = omega (arith, place-small (c .args .tasks) (c .args .from) (c .args .to) (c .pre .0) (c .pre .1) (c .pre .2))

@@ -1,0 +1,6 @@
+-- The proofs that other crates may cite.
+pub mod Places
+pub mod Diagonal
+pub mod Within
+pub mod Worth
+pub mod Best
