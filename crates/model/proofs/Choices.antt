@@ -16,7 +16,7 @@ use Rattle.model.specs.Paths.{Least, smallest, no-path, Latency}
 use Rattle.model.specs.Compute.{plus, atMost, present, latencyOf}
 use Rattle.model.specs.Proposals.{result}
 use Rattle.model.specs.Theorems.{Decides, OffCycles}
-use Rattle.model.specs.Plan.{presentEdges, withPair, Candidate, Counts, itself, least, Subsumes, ifSame, counting, subsumes, isCandidate, gain, Chosen, replaced, Step, NoStep, worth, mostFrom, most, sinkFound, sourceFound, ifMany, step}
+use Rattle.model.specs.Plan.{presentEdges, withPair, Candidate, Counts, itself, least, Subsumes, ifSame, counting, subsumes, isCandidate, gain, Chosen, replaced, Step, NoStep, worth, mostFrom, mostWorth, sinkFound, sourceFound, ifMany, step}
 use Rattle.model.specs.PlanTheorems.{SubsumesIs, CandidateIs, StepIs, NoStepIs, StepUnique}
 use Rattle.model.proofs.Basics.{cases, is-true, is-false, eq→eqb, order, below-suc, FirstFrom, found, missing, first-from}
 use Rattle.model.proofs.Least.{least-delay, least-unique}
@@ -194,8 +194,8 @@ module _ (g : Graph) (list : List Edge) where
     taken : {m a b : ℕ} → Best m a b → Searched (some (replaced g list a b))
     nothing : NoneWorth → Searched none
 
-  most-at : 0 < most g list → (a : ℕ) × (a < count g) × (mostFrom g list a ≡ most g list)
-  unfolding most
+  most-at : 0 < mostWorth g list → (a : ℕ) × (a < count g) × (mostFrom g list a ≡ mostWorth g list)
+  unfolding mostWorth
   most-at h = biggest-at (mostFrom g list) (count g) h
 
   most-from-at : (a : ℕ) → 0 < mostFrom g list a → (b : ℕ) × (b < count g) × (worth g list a b ≡ mostFrom g list a)
@@ -206,8 +206,8 @@ module _ (g : Graph) (list : List Edge) where
   unfolding mostFrom
   most-from c d l = at-most-biggest (worth g list c) (count g) d l
 
-  most-most : (c : ℕ) → c < count g → mostFrom g list c ≤ most g list
-  unfolding most
+  most-most : (c : ℕ) → c < count g → mostFrom g list c ≤ mostWorth g list
+  unfolding mostWorth
   most-most c l = at-most-biggest (mostFrom g list) (count g) c l
 
   searched : Searched (step g list)
@@ -215,7 +215,7 @@ module _ (g : Graph) (list : List Edge) where
   searched = go (leb 2 m) (ltb-decides 1 m) (first-from (λ a. eqb (mostFrom g list a) m) 0 (count g))
     where
       m : ℕ
-      m = most g list
+      m = mostWorth g list
 
       out-of : (a : ℕ) → 2 ≤ m → a < count g → mostFrom g list a ≡ m → ((c : ℕ) → c < a → T (not (eqb (mostFrom g list c) m))) →
           {o : Option ℕ} → FirstFrom (λ b. eqb (worth g list a b) m) 0 (count g) o → Searched (sinkFound g list a o)

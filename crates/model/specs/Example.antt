@@ -101,6 +101,16 @@ DeskDelayedLoses = OrderHeld (edges (result desk (edge 1 2 1 ∷ []))) (edge 0 2
 abbrev pub DeskLate : Type 0
 DeskLate = (MissesBound (result (deskBound 10) proposal) → ⊥) × MissesBound (result (deskBound 9) proposal)
 
+-- ── The plan ──
+
+-- "plan: 1→2, one step, latency 10"
+abbrev pub DeskPlan : Type 0
+DeskPlan = (planOf desk ≡ record { list = edge 1 2 0 ∷ []; steps = 1 }) × (planLatency desk ≡ 10)
+
+-- "at bound 9: 0→2, 1→3, no step"
+abbrev pub DeskPlanAtNine : Type 0
+DeskPlanAtNine = (planOf (deskBound 9) ≡ record { list = edge 0 2 0 ∷ edge 1 3 0 ∷ []; steps = 0 }) × (planLatency (deskBound 9) ≡ 9)
+
 -- ── What the theorems cannot do without ──
 
 -- The customer's accident: two equal waits. Each is redundant on the strength of the other, and with both dropped the order is lost.
@@ -114,11 +124,3 @@ EqualEdgesNeedRefusal = Redundant twins 0 × Redundant twins 1 × (OrderHeld (ed
 abbrev pub SerialIsNeeded : Type 0
 SerialIsNeeded =
     ((n : ℕ) (es rs : List Edge) → Ends n rs → NoZeroCycle rs → AllHeld rs es → RunsAllowed n rs es) → ⊥
-
--- "plan: 1→2, one step, latency 10"
-abbrev pub DeskPlan : Type 0
-DeskPlan = (planOf desk ≡ record { list = edge 1 2 0 ∷ []; steps = 1 }) × (planLatency desk ≡ 10)
-
--- "at bound 9: 0→2, 1→3, no step"
-abbrev pub DeskPlanAtNine : Type 0
-DeskPlanAtNine = (planOf (deskBound 9) ≡ record { list = edge 0 2 0 ∷ edge 1 3 0 ∷ []; steps = 0 }) × (planLatency (deskBound 9) ≡ 9)

@@ -6,7 +6,7 @@ use mathlib.Core.Bool.{Bool, true, false, not, _&&_}
 use mathlib.Core.List.{List, [], _∷_, _++_}
 use mathlib.Core.Option.{Option, none, some}
 use Prim.Native.Nat.{ℕ, zero, suc, _+_, _≤_, _<_}
-use lib.Dec.{leb, ltb, eqb}
+use lib.Dec.{leb, eqb}
 use lib.ListN.{length}
 use Rattle.model.specs.Lists.{keep, keepPlaces, counted, biggestBelow, firstFrom}
 use Rattle.model.specs.Tasks.{Edge}
@@ -54,7 +54,7 @@ pub record Subsumes (es : List Edge) (a b : ℕ) (e : Edge) : Type 0 where
   pub from-sink : Counts es b (e .sink) after
   pub within : before + after ≤ e .delay
 
--- ── What computes it: `subsumes` and `isCandidate` are proved to decide Subsumes and Candidate ──
+-- ── What computes these: `subsumes` and `isCandidate` are proved to decide Subsumes and Candidate ──
 
 unfoldable pub ifSame : Bool → Option ℕ → Option ℕ
 ifSame true d = some 0
@@ -73,12 +73,12 @@ unfoldable pub isCandidate : Graph → List Edge → ℕ → ℕ → Bool
 unfolding present leastDelay presentEdges latencyOf result withPair
 isCandidate g list a b = not (present (leastDelay (count g) (presentEdges g list) b a)) && leb (latencyOf (result g (withPair list a b))) (g .bound)
 
--- how many edges of the list a pair subsumes. (A candidate subsumes no feedback edge: `feedback-not-subsumed`.)
+-- ── A step ──
+
+-- how many edges of the list a pair subsumes: `subsumes` tests Subsumes (`SubsumesIs`). A candidate subsumes no feedback edge (`FeedbackNotSubsumed`).
 unfoldable pub gain : Graph → List Edge → ℕ → ℕ → ℕ
 unfolding keep subsumes presentEdges
 gain g list a b = length (keep (subsumes (count g) (presentEdges g list) a b) list)
-
--- ── A step ──
 
 -- "Each step takes the candidate that subsumes most edges, ties to the smaller a and then the smaller b [..]. Only a candidate that subsumes two or
 -- more is taken"
@@ -106,7 +106,7 @@ NoStep g list = (a b : ℕ) → Candidate g list a b → gain g list a b < 2
 
 -- ── The plan ──
 
--- the stages of a graph's plan, and how many steps lead to each
+-- the stages of a graph's plan, and how many steps lead to each: "The plan lists the feedforward edges left, file sequence first, then added ones."
 pub data Stage (g : Graph) : ℕ → List Edge → Type 0 where
   at-first : {k : ℕ} {list : List Edge} → k ≡ 0 → list ≡ firstStage g → Stage g k list
   then-step : {k : ℕ} {list next : List Edge} → Stage g k list → Step g list next → Stage g (suc k) next
@@ -116,7 +116,7 @@ pub record Plan (g : Graph) (steps : ℕ) (list : List Edge) : Type 0 where
   pub stage : Stage g steps list
   pub finished : NoStep g list
 
--- ── What computes it: `step` and `planOf` are proved to give Step and Plan ──
+-- ── What computes these: `step` and `planOf` are proved to give Step and Plan ──
 
 -- what taking a pair is worth: what it subsumes if it is a candidate, otherwise nothing
 unfoldable pub worth : Graph → List Edge → ℕ → ℕ → ℕ
@@ -128,9 +128,9 @@ unfoldable pub mostFrom : Graph → List Edge → ℕ → ℕ
 unfolding biggestBelow worth
 mostFrom g list a = biggestBelow (count g) (worth g list a)
 
-unfoldable pub most : Graph → List Edge → ℕ
+unfoldable pub mostWorth : Graph → List Edge → ℕ
 unfolding biggestBelow mostFrom
-most g list = biggestBelow (count g) (mostFrom g list)
+mostWorth g list = biggestBelow (count g) (mostFrom g list)
 
 -- the smallest a, and then the smallest b, of a pair worth m
 unfoldable pub sinkFound : Graph → List Edge → ℕ → Option ℕ → Option (List Edge)
@@ -149,9 +149,11 @@ ifMany false next = none
 
 -- the stage after one step, or none
 unfoldable pub step : Graph → List Edge → Option (List Edge)
-unfolding ifMany most sourceFound firstFrom mostFrom
-step g list = ifMany (leb 2 (most g list)) (sourceFound g list (most g list) (firstFrom (λ a. eqb (mostFrom g list a) (most g list)) 0 (count g)))
+unfolding ifMany mostWorth sourceFound firstFrom mostFrom
+step g list =
+    ifMany (leb 2 (mostWorth g list)) (sourceFound g list (mostWorth g list) (firstFrom (λ a. eqb (mostFrom g list a) (mostWorth g list)) 0 (count g)))
 
+-- "the answer gives its length, its steps and its latency"
 pub record Planned : Type 0 where
   pub list : List Edge
   pub steps : ℕ

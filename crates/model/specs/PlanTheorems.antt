@@ -1,5 +1,6 @@
--- What is proved of the plan, each sentence as a type. Each is proved under its own name (`SubsumesIs` by `subsumes-is`): candidates and steps in
--- proofs/Choices.antt, (25) and feedback edges in proofs/Pairs.antt, stages in proofs/Stages.antt, the plan in proofs/Plans.antt.
+-- What is proved of the plan, each sentence as a type. Each is proved under its own name (`SubsumesIs` by `subsumes-is`): formula (25) and what is said of
+-- feedback edges in proofs/Pairs.antt, tests and steps in Choices.antt, that steps lower the number of edges and keep what is accepted in Stages.antt, the
+-- rest in Plans.antt.
 use mathlib.Core.Path.{_≡_}
 use mathlib.Core.Logic.{_↔_, _≢_}
 use mathlib.Core.Bool.{not}
@@ -9,8 +10,8 @@ use Prim.Native.Nat.{ℕ, _+_, _≤_, _<_}
 use lib.ListN.{length}
 use Rattle.model.specs.Lists.{keep}
 use Rattle.model.specs.Tasks.{Edge, Ends}
-use Rattle.model.specs.Graph.{Graph, count, edges, timeOf, WellFormedEdges}
-use Rattle.model.specs.Paths.{Path, OnCycle, NoZeroCycle, ZeroWalk, timesAlong, Latency}
+use Rattle.model.specs.Graph.{Graph, count, timeOf, WellFormedEdges}
+use Rattle.model.specs.Paths.{Path, OnCycle, ZeroWalk, timesAlong, Latency}
 use Rattle.model.specs.Compute.{isFeedback}
 use Rattle.model.specs.Proposals.{result, AcceptedGraph, AcceptedProposal}
 use Rattle.model.specs.Theorems.{Decides, OffCycles, Resynchronizes}
