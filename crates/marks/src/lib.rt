@@ -54,6 +54,15 @@ pub fn next_place(marks: Marks, after: u32) -> u32
     0
 }
 
+// Whether the mark at a place is set, places counted from 0.
+pub fn is_marked(marks: Marks, place: u32) -> bool
+    requires { ⌜ place < 256 ⌝ }
+    ensures { λ r. ⌜ r ≡ markAt marks place ⌝ }
+{
+    let word = marks.words[(place / 64) as usize];
+    (word >> (63 - place % 64)) & 1 == 1
+}
+
 // No places.
 fn no_places() -> Places
     ensures { λ r. ⌜ (r .count ≡ 0) × (r .place ≡ replicate 256 0) ⌝ }

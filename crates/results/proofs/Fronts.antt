@@ -11,7 +11,7 @@ use lib.Seq.{take-suc-set, getD-at}
 use Rattle.model.specs.Lists.{tabulate}
 use Rattle.model.specs.Tasks.{Edge, noEdge}
 use Rattle.model.proofs.Basics.{below-suc}
-use Rattle.records.specs.Columns.{Column}
+use Rattle.records.specs.Columns.{Column, edgesOf}
 use Rattle.records.proofs.Edges.{edges-of-columns}
 use Rattle.results.specs.declared.ResultEdges.{ResultEdges}
 use Rattle.results.specs.Results.{HeldResult}
@@ -37,9 +37,9 @@ column-more {A} {missing} {part} {rows} {column} row held = record {
         getD-at column (part row) [] 0 i (held .as-many ∙ sym e) ∙ ap part (sym (getD-at rows row [] missing i (sym e)))
 
 front-more :
-    {part : Edge → ℕ} {es : List Edge} {count : ℕ} {list : List ℕ} (e : Edge) → Front part es count list → count < 576
-    → Front part (es ++ (e ∷ [])) (count + 1) (set list count (part e))
-front-more {part} {es} {count} {list} e front below = record {
+    {part : Edge → ℕ} {es : List Edge} {size count : ℕ} {list : List ℕ} (e : Edge) → Front part es size count list → count < size
+    → Front part (es ++ (e ∷ [])) size (count + 1) (set list count (part e))
+front-more {part} {es} {size} {count} {list} e front below = record {
   as-many = ap (λ (n : ℕ). n + 1) (front .as-many) ∙ sym (length-append es (e ∷ []));
   room = length-set list count (part e) ∙ front .room;
   column =
@@ -50,15 +50,16 @@ front-more {part} {es} {count} {list} e front below = record {
       (column-more e (front .column));
 }
 
-front-none : {part : Edge → ℕ} {list : List ℕ} → length list ≡ 576 → Front part [] 0 list
+front-none : {part : Edge → ℕ} {size : ℕ} {list : List ℕ} → length list ≡ size → Front part [] size 0 list
 front-none room = record { as-many = refl; room = room; column = record { as-many = refl; same = λ i l. absurd (not-suc-le-zero l) } }
 
-pub held-none : {source sink delay : List ℕ} → length source ≡ 576 → length sink ≡ 576 → length delay ≡ 576 → HeldFront 0 source sink delay []
+pub held-none :
+    {size : ℕ} {source sink delay : List ℕ} → length source ≡ size → length sink ≡ size → length delay ≡ size → HeldFront size 0 source sink delay []
 held-none r s t = record { sources = front-none r; sinks = front-none s; delays = front-none t }
 
 pub held-more :
-    {count : ℕ} {source sink delay : List ℕ} {es : List Edge} (e : Edge) → HeldFront count source sink delay es → count < 576
-    → HeldFront (count + 1) (set source count (e .source)) (set sink count (e .sink)) (set delay count (e .delay)) (es ++ (e ∷ []))
+    {size count : ℕ} {source sink delay : List ℕ} {es : List Edge} (e : Edge) → HeldFront size count source sink delay es → count < size
+    → HeldFront size (count + 1) (set source count (e .source)) (set sink count (e .sink)) (set delay count (e .delay)) (es ++ (e ∷ []))
 held-more e held below = record {
   sources = front-more e (held .sources) below;
   sinks = front-more e (held .sinks) below;
@@ -66,16 +67,16 @@ held-more e held below = record {
 }
 
 front-same :
-    {part : Edge → ℕ} {es es′ : List Edge} {count count′ : ℕ} {list list′ : List ℕ} → Front part es count list → es′ ≡ es → count′ ≡ count → list′ ≡ list
-    → Front part es′ count′ list′
-front-same {part} {es} {es′} {count} {count′} {list} {list′} front p q r =
-    subst (λ (xs : List Edge). Front part xs count′ list′) (sym p)
-    (subst (λ (n : ℕ). Front part es n list′) (sym q) (subst (λ (xs : List ℕ). Front part es count xs) (sym r) front))
+    {part : Edge → ℕ} {es es′ : List Edge} {size count count′ : ℕ} {list list′ : List ℕ} → Front part es size count list → es′ ≡ es → count′ ≡ count
+    → list′ ≡ list → Front part es′ size count′ list′
+front-same {part} {es} {es′} {size} {count} {count′} {list} {list′} front p q r =
+    subst (λ (xs : List Edge). Front part xs size count′ list′) (sym p)
+    (subst (λ (n : ℕ). Front part es size n list′) (sym q) (subst (λ (xs : List ℕ). Front part es size count xs) (sym r) front))
 
 -- the same edges, number of edges and lists by other names
 pub held-same :
-    {count count′ : ℕ} {source source′ sink sink′ delay delay′ : List ℕ} {es es′ : List Edge} → HeldFront count source sink delay es
-    → es′ ≡ es → count′ ≡ count → source′ ≡ source → sink′ ≡ sink → delay′ ≡ delay → HeldFront count′ source′ sink′ delay′ es′
+    {size count count′ : ℕ} {source source′ sink sink′ delay delay′ : List ℕ} {es es′ : List Edge} → HeldFront size count source sink delay es
+    → es′ ≡ es → count′ ≡ count → source′ ≡ source → sink′ ≡ sink → delay′ ≡ delay → HeldFront size count′ source′ sink′ delay′ es′
 held-same held p q r s t = record {
   sources = front-same (held .sources) p q r;
   sinks = front-same (held .sinks) p q s;
@@ -83,7 +84,7 @@ held-same held p q r s t = record {
 }
 
 -- a list into which one number was stored has the room that it had
-pub stored-room : (list : List ℕ) (at x : ℕ) {list′ : List ℕ} → list′ ≡ set list at x → length list ≡ 576 → length list′ ≡ 576
+pub stored-room : {size : ℕ} (list : List ℕ) (at x : ℕ) {list′ : List ℕ} → list′ ≡ set list at x → length list ≡ size → length list′ ≡ size
 stored-room list at x stored room = ap length stored ∙ (length-set list at x ∙ room)
 
 -- one entry more of a list made place by place
@@ -91,15 +92,20 @@ pub tabulate-more : {A : Type 0} (f : ℕ → A) (j : ℕ) → tabulate (j + 1) 
 unfolding tabulate
 tabulate-more f j = ap (λ (n : ℕ). tabulate n f) (add-one j)
 
+-- the edges that the fronts hold
+pub held-edges :
+    {size count : ℕ} {source sink delay : List ℕ} {es : List Edge} → HeldFront size count source sink delay es
+    → edgesOf (take count source) (take count sink) (take count delay) ≡ es
+held-edges {size} {count} {source} {sink} {delay} {es} held =
+    edges-of-columns (take count source) (take count sink) (take count delay) es (held .sources .column) (held .sinks .column) (held .delays .column)
+
 -- the edges of a result, from the fronts of its lists
-pub held-result : {r : ResultEdges} {es : List Edge} → HeldFront (r .count) (r .source) (r .sink) (r .delay) es → r .count ≤ 576 → HeldResult r es
-held-result {r} {es} held few = record {
+pub held-result : {r : ResultEdges} {es : List Edge} → HeldFront 576 (r .count) (r .source) (r .sink) (r .delay) es → r .count ≤ 576 → HeldResult r es
+held-result held few = record {
   as-many = held .sources .as-many;
   few = few;
   source-room = held .sources .room;
   sink-room = held .sinks .room;
   delay-room = held .delays .room;
-  held =
-      edges-of-columns (take (r .count) (r .source)) (take (r .count) (r .sink)) (take (r .count) (r .delay)) es (held .sources .column) (held .sinks .column)
-      (held .delays .column);
+  held = held-edges held;
 }

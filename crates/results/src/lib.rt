@@ -34,7 +34,7 @@ fn blank_lists() -> ResultEdges
 }
 
 // Stores an edge at a place of three lists.
-fn store<'a>(
+pub fn store<'a>(
     source: u8,
     sink: u8,
     delay: u8,
@@ -70,7 +70,7 @@ fn keep_cyclic<'a, 'b>(
     requires { ⌜ Reaches tasks (edgesOf (now source) (now sink) (now delay)) (now words) ⌝ }
     requires { ⌜ (length (now «to_source») ≡ 576) × (length (now «to_sink») ≡ 576) × (length (now «to_delay») ≡ 576) ⌝ }
     ensures { λ r. ⌜ r ≤ 320 ⌝ }
-    ensures { λ r. ⌜ HeldFront r (now («to_source» .exit)) (now («to_sink» .exit)) (now («to_delay» .exit)) (cyclic tasks (edgesOf (now (source .entry)) (now (sink .entry)) (now (delay .entry)))) ⌝ }
+    ensures { λ r. ⌜ HeldFront 576 r (now («to_source» .exit)) (now («to_sink» .exit)) (now («to_delay» .exit)) (cyclic tasks (edgesOf (now (source .entry)) (now (sink .entry)) (now (delay .entry)))) ⌝ }
 {
     let mut kept = 0;
     let mut j = 0;
@@ -99,7 +99,7 @@ fn append<'a, 'b>(
     requires { ⌜ (length (now sink) ≡ length (now source)) × (length (now delay) ≡ length (now source)) ⌝ }
     requires { ⌜ kept + length (now source) ≤ 576 ⌝ }
     requires { ⌜ (length (now «to_source») ≡ 576) × (length (now «to_sink») ≡ 576) × (length (now «to_delay») ≡ 576) ⌝ }
-    ensures { λ _. ⌜ ((es : List Edge) → HeldFront kept (now («to_source» .entry)) (now («to_sink» .entry)) (now («to_delay» .entry)) es → HeldFront (kept + length (now (source .entry))) (now («to_source» .exit)) (now («to_sink» .exit)) (now («to_delay» .exit)) (es ++ edgesOf (now (source .entry)) (now (sink .entry)) (now (delay .entry)))) ⌝ }
+    ensures { λ _. ⌜ ((es : List Edge) → HeldFront 576 kept (now («to_source» .entry)) (now («to_sink» .entry)) (now («to_delay» .entry)) es → HeldFront 576 (kept + length (now (source .entry))) (now («to_source» .exit)) (now («to_sink» .exit)) (now («to_delay» .exit)) (es ++ edgesOf (now (source .entry)) (now (sink .entry)) (now (delay .entry)))) ⌝ }
 {
     let mut j = 0;
     while j < source.len() {

@@ -1,4 +1,5 @@
 -- Document 01, "Who caused a refusal": 9 to 12, and which refusal up to 12 a graph file gets.
+use mathlib.Core.Path.{_≡_}
 use mathlib.Core.Bool.{not}
 use mathlib.Core.List.{List, [], _∷_}
 use Prim.Native.Nat.{ℕ}
@@ -6,10 +7,12 @@ use lib.Dec.{ltb}
 use Rattle.model.specs.Tasks.{Edge}
 use Rattle.model.specs.Graph.{Graph, count, edges, timeOf}
 use Rattle.model.specs.Compute.{zeroCycle, inputFree, joined, latency, latencyOf}
+use Rattle.model.specs.Proposals.{AcceptedGraph}
 use Rattle.files.specs.declared.Refusal.{Refusal}
 use Rattle.files.specs.Refusals.{refuse, first, ifPassed}
 use Rattle.files.specs.Files.{graphOf, graphRefusal}
-use Rattle.readings.specs.Working.{graphReading}
+use Rattle.readings.specs.declared.GraphReading.{GraphReading}
+use Rattle.readings.specs.Working.{workingGraph, graphReading}
 use Rattle.schedule.specs.declared.Acceptance.{Acceptance}
 
 -- "9: a cycle of total delay 0. 10: the input has an incoming edge of delay 0. 11: input equals output, or no path of delay 0 joins them. 12: the
@@ -39,3 +42,8 @@ acceptance s = record {
   latency = ifPassed (acceptanceRefusal s .number) (latencyOf (graphOf s)) 0;
   reading = graphReading s;
 }
+
+-- Only for contracts inside: an accepted graph in its working form.
+pub record Scheduled (graph : GraphReading) (g : Graph) : Type 0 where
+  pub accepted : AcceptedGraph g
+  pub graph-is : graph ≡ workingGraph g

@@ -22,7 +22,6 @@ use Rattle.files.specs.Files.{edgeIn, firstOf}
 use Rattle.files.proofs.First.{number-same}
 use Rattle.records.specs.Columns.{SourcesOf, SinksOf, DelaysOf, edgesOf, heldEdge, at}
 use Rattle.records.proofs.Fill.{length-tabulate}
-use Rattle.records.proofs.Rows.{product-small}
 use Rattle.records.proofs.Edges.{edge-at, edges-of-columns}
 use Rattle.records.proofs.Ordered.{sync-place}
 use Rattle.readings.specs.declared.GraphReading.{GraphReading}
@@ -33,7 +32,7 @@ use Rattle.readings.proofs.Held.{working-edges-hold}
 use Rattle.delays.specs.Delays.{delayTable, Fit}
 use Rattle.starts.specs.Starts.{FileTimes}
 use Rattle.delays.proofs.Table.{table-length, table-front, table-room}
-use Rattle.schedule.proofs.Fronts.{front, frontEdges, Fronts, working-fronts, Within, fronts-within, graph-fit, file-times}
+use Rattle.schedule.proofs.Fronts.{front, frontEdges, Fronts, Within, file-times, working-is, working-within, working-few, working-square, working-fit}
 use Rattle.results.specs.declared.ResultEdges.{ResultEdges}
 use Rattle.results.specs.Results.{resultOf, HeldResult}
 use Rattle.results.proofs.Results.{result-edges-are}
@@ -101,7 +100,7 @@ working-held proposed few =
     }
 
 -- how long the front of a list is
-front-length : (n : ℕ) (xs : List ℕ) {room : ℕ} → length xs ≡ room → n ≤ room → length (front n xs) ≡ n
+pub front-length : (n : ℕ) (xs : List ℕ) {room : ℕ} → length xs ≡ room → n ≤ room → length (front n xs) ≡ n
 front-length n xs is within = ap length (ap (λ (k : ℕ). take k xs) (sub-zero n)) ∙ length-take-le n xs (omega arith)
 
 -- checks that say the same at every place give the same first refusal
@@ -118,23 +117,22 @@ module _ {graph : GraphReading} {proposal : ProposalReading} {g : Graph} {propos
   well = given .accepted .formed
 
   pub graph-fronts : Fronts g graph
-  graph-fronts =
-      subst (λ (x : GraphReading). Fronts g x) (sym (given .graph-is)) (working-fronts g (well .at-most-64) (well .syncs-formed .few))
+  graph-fronts = working-is well (given .graph-is)
 
   pub proposed-fronts : ProposedFronts proposed proposal
   proposed-fronts = fronts-held (given .proposal-holds)
 
   pub graph-within : Within graph
-  graph-within = fronts-within graph-fronts well
+  graph-within = working-within well (given .graph-is)
 
   pub few-tasks : graph .tasks ≤ 64
-  few-tasks = omega (arith, graph-fronts .tasks-are, well .at-most-64)
+  few-tasks = working-few well (given .graph-is)
 
   pub few-proposed : proposal .edges ≤ 256
   few-proposed = omega (arith, proposed-fronts .edges-are, given .formed .few)
 
   pub square-small : graph .tasks * graph .tasks ≤ 4096
-  square-small = product-small (graph .tasks) (graph .tasks) few-tasks few-tasks
+  square-small = working-square well (given .graph-is)
 
   pub as-many-edges : length (front (graph .tasks + graph .edges) (graph .source)) ≡ graph .tasks + graph .edges
   as-many-edges = front-length (graph .tasks + graph .edges) (graph .source) refl (graph-within .source)
@@ -143,11 +141,9 @@ module _ {graph : GraphReading} {proposal : ProposalReading} {g : Graph} {propos
   few-edges = omega (arith, graph-within .source, graph-fronts .source-room)
 
   pub original-fit : Fit (graph .tasks) (frontEdges graph)
-  original-fit =
-      subst (λ (es : List Edge). Fit (graph .tasks) es) (sym (graph-fronts .held))
-      (subst (λ (n : ℕ). Fit n (edges g)) (sym (graph-fronts .tasks-are)) (graph-fit g well))
+  original-fit = working-fit well (given .graph-is)
 
-  result-is : resultOf (graph .tasks) (frontEdges graph) (frontProposed proposal) ≡ edges (result g proposed)
+  pub result-is : resultOf (graph .tasks) (frontEdges graph) (frontProposed proposal) ≡ edges (result g proposed)
   result-is =
       (λ i. resultOf (graph-fronts .tasks-are i) (graph-fronts .held i) (proposed-fronts .held i)) ∙
       result-edges-are g (well .syncs-formed .ends) proposed

@@ -16,8 +16,8 @@ use Rattle.results.proofs.append.Tie as tie
 abbrev Inv-loop : tie.InvT-loop
 Inv-loop source sink delay kept to-source₀ to-sink₀ to-delay₀ j₀ to-source to-sink to-delay j =
     (j ≤ length source) × (length to-source ≡ 576) × (length to-sink ≡ 576) × (length to-delay ≡ 576) ×
-    ((es : List Edge) → HeldFront kept to-source₀ to-sink₀ to-delay₀ es →
-    HeldFront (kept + j) to-source to-sink to-delay (es ++ tabulate j (heldEdge source sink delay)))
+    ((es : List Edge) → HeldFront 576 kept to-source₀ to-sink₀ to-delay₀ es →
+    HeldFront 576 (kept + j) to-source to-sink to-delay (es ++ tabulate j (heldEdge source sink delay)))
 
 abbrev μ-loop : tie.MeasureT-loop
 μ-loop source sink delay kept to-source₀ to-sink₀ to-delay₀ j₀ to-source to-sink to-delay j = length source - j

@@ -18,7 +18,7 @@ use Rattle.results.proofs.keep_cyclic.Tie as tie
 abbrev Inv-loop : tie.InvT-loop
 Inv-loop source sink delay words tasks to-source₀ to-sink₀ to-delay₀ kept₀ j₀ to-source to-sink to-delay kept j =
     (j ≤ length source) × (kept ≤ j) ×
-    HeldFront kept to-source to-sink to-delay (keep (onCycle tasks (edgesOf source sink delay)) (tabulate j (heldEdge source sink delay)))
+    HeldFront 576 kept to-source to-sink to-delay (keep (onCycle tasks (edgesOf source sink delay)) (tabulate j (heldEdge source sink delay)))
 
 abbrev μ-loop : tie.MeasureT-loop
 μ-loop source sink delay words tasks to-source₀ to-sink₀ to-delay₀ kept₀ j₀ to-source to-sink to-delay kept j =

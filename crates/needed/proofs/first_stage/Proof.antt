@@ -1,0 +1,241 @@
+-- `needed::first_stage` meets its contract: the fronts hold the graph's edges, so the table and the marks are theirs, and the needed edges among
+-- those of the file are the first stage.
+use mathlib.Core.Path.{refl, sym, ap, _∙_}
+use native.Mathlib.Omega.{arith}
+use lib.ListN.{length}
+use Rattle.schedule.proofs.Fronts.{frontEdges}
+use Rattle.delays.proofs.Table.{table-length, table-front, table-room}
+use Rattle.results.proofs.Fronts.{held-same}
+use Rattle.stages.proofs.Staged.{held-stage}
+use Rattle.needed.proofs.Given.{graph-fronts, graph-within, few-tasks, square-small, front-fit, held-graph, part-sinks, part-delays, part-few, part-ends, first-is}
+use borrow.Author.Needs.{needs}
+use Rattle.needed.proofs.first_stage.Statement.{statement}
+use Rattle.needed.proofs.first_stage.Tie as tie
+
+cast-tasks : tie.Need-cast-tasks
+cast-tasks c = search needs
+
+cast-end : tie.Need-cast-end
+cast-end c = search needs
+
+add-end : tie.Need-add-end
+add-end c = search needs
+
+blank-table-requires : tie.Need-blank-table-requires
+blank-table-requires c κs = search needs
+
+sub-least-table : tie.Need-sub-least-table
+sub-least-table c = search needs
+
+part-least-table-start : tie.Need-part-least-table-start
+part-least-table-start c = search needs
+
+part-least-table-end : tie.Need-part-least-table-end
+part-least-table-end c = graph-within (c .before .before .before .before .before .before .before .before .pre .1) .source
+
+sub-least-table-2 : tie.Need-sub-least-table-2
+sub-least-table-2 c = search needs
+
+part-least-table-start-2 : tie.Need-part-least-table-start-2
+part-least-table-start-2 c = search needs
+
+part-least-table-end-2 : tie.Need-part-least-table-end-2
+part-least-table-end-2 c = graph-within (c .before .before .before .before .before .before .before .before .before .before .pre .1) .sink
+
+sub-least-table-3 : tie.Need-sub-least-table-3
+sub-least-table-3 c = search needs
+
+part-least-table-start-3 : tie.Need-part-least-table-start-3
+part-least-table-start-3 c = search needs
+
+part-least-table-end-3 : tie.Need-part-least-table-end-3
+part-least-table-end-3 c = graph-within (c .before .before .before .before .before .before .before .before .before .before .before .before .pre .1) .delay
+
+slice-aggregate-least-table : tie.Need-slice-aggregate-least-table
+slice-aggregate-least-table c = search needs
+
+least-table-requires : tie.Need-least-table-requires
+least-table-requires c κs =
+    let given = c .before .before .before .before .before .before .before .before .before .before .before .before .before .before .pre .1 in
+    let held = graph-fronts given in
+    ((held .as-many-sinks, held .as-many-delays), ((few-tasks given, omega (arith, square-small given, c .before .before .before .before .before .before .before .before .blank-table .ensures)), front-fit given))
+
+sub-redundant-marks : tie.Need-sub-redundant-marks
+sub-redundant-marks c = search needs
+
+part-redundant-marks-start : tie.Need-part-redundant-marks-start
+part-redundant-marks-start c = search needs
+
+part-redundant-marks-end : tie.Need-part-redundant-marks-end
+part-redundant-marks-end c = graph-within (c .before .before .before .before .before .before .before .before .before .before .before .before .before .before .before .before .before .pre .1) .source
+
+sub-redundant-marks-2 : tie.Need-sub-redundant-marks-2
+sub-redundant-marks-2 c = search needs
+
+part-redundant-marks-start-2 : tie.Need-part-redundant-marks-start-2
+part-redundant-marks-start-2 c = search needs
+
+part-redundant-marks-end-2 : tie.Need-part-redundant-marks-end-2
+part-redundant-marks-end-2 c = graph-within (c .before .before .before .before .before .before .before .before .before .before .before .before .before .before .before .before .before .before .before .pre .1) .sink
+
+sub-redundant-marks-3 : tie.Need-sub-redundant-marks-3
+sub-redundant-marks-3 c = search needs
+
+part-redundant-marks-start-3 : tie.Need-part-redundant-marks-start-3
+part-redundant-marks-start-3 c = search needs
+
+part-redundant-marks-end-3 : tie.Need-part-redundant-marks-end-3
+part-redundant-marks-end-3 c = graph-within (c .before .before .before .before .before .before .before .before .before .before .before .before .before .before .before .before .before .before .before .before .before .pre .1) .delay
+
+mul-redundant-marks : tie.Need-mul-redundant-marks
+mul-redundant-marks c = record { fits = omega (arith, square-small (c .before .before .before .before .before .before .before .before .before .before .before .before .before .before .before .before .before .before .before .before .before .before .pre .1)) }
+
+sub-redundant-marks-4 : tie.Need-sub-redundant-marks-4
+sub-redundant-marks-4 c = search needs
+
+part-redundant-marks-start-4 : tie.Need-part-redundant-marks-start-4
+part-redundant-marks-start-4 c = search needs
+
+part-redundant-marks-end-4 : tie.Need-part-redundant-marks-end-4
+part-redundant-marks-end-4 c =
+    let graph = c .before .before .before .before .before .before .before .before .before .before .before .before .before .before .before .before .before .before .before .before .before .before .before .args .graph in
+    omega (arith, table-room (graph .tasks) (frontEdges graph) _ (c .before .before .before .before .before .before .before .before .least-table .ensures))
+
+redundant-marks-requires : tie.Need-redundant-marks-requires
+redundant-marks-requires c κs =
+    let graph = c .before .before .before .before .before .before .before .before .before .before .before .before .before .before .before .before .before .before .before .before .before .before .before .before .args .graph in
+    let given = c .before .before .before .before .before .before .before .before .before .before .before .before .before .before .before .before .before .before .before .before .before .before .before .before .pre .1 in
+    let held = graph-fronts given in (
+      (held .as-many-sinks, held .as-many-delays),
+      (few-tasks given, (front-fit given, table-front (graph .tasks) (frontEdges graph) _ (c .before .before .before .before .before .before .before .before .before .least-table .ensures))),
+    )
+
+blank-stage-requires : tie.Need-blank-stage-requires
+blank-stage-requires c κs = search needs
+
+sub-keep-needed : tie.Need-sub-keep-needed
+sub-keep-needed c = search needs
+
+part-keep-needed-start : tie.Need-part-keep-needed-start
+part-keep-needed-start c = search needs
+
+part-keep-needed-end : tie.Need-part-keep-needed-end
+part-keep-needed-end c = graph-within (c .before .before .before .before .before .before .before .before .before .before .before .before .before .before .before .before .before .before .before .before .before .before .before .before .before .before .before .before .before .before .pre .1) .source
+
+sub-keep-needed-2 : tie.Need-sub-keep-needed-2
+sub-keep-needed-2 c = search needs
+
+part-keep-needed-start-2 : tie.Need-part-keep-needed-start-2
+part-keep-needed-start-2 c = search needs
+
+part-keep-needed-end-2 : tie.Need-part-keep-needed-end-2
+part-keep-needed-end-2 c = graph-within (c .before .before .before .before .before .before .before .before .before .before .before .before .before .before .before .before .before .before .before .before .before .before .before .before .before .before .before .before .before .before .before .before .pre .1) .sink
+
+sub-keep-needed-3 : tie.Need-sub-keep-needed-3
+sub-keep-needed-3 c = search needs
+
+part-keep-needed-start-3 : tie.Need-part-keep-needed-start-3
+part-keep-needed-start-3 c = search needs
+
+part-keep-needed-end-3 : tie.Need-part-keep-needed-end-3
+part-keep-needed-end-3 c = graph-within (c .before .before .before .before .before .before .before .before .before .before .before .before .before .before .before .before .before .before .before .before .before .before .before .before .before .before .before .before .before .before .before .before .before .before .pre .1) .delay
+
+mul-keep-needed : tie.Need-mul-keep-needed
+mul-keep-needed c = record { fits = omega (arith, square-small (c .before .before .before .before .before .before .before .before .before .before .before .before .before .before .before .before .before .before .before .before .before .before .before .before .before .before .before .before .before .before .before .before .before .before .before .pre .1)) }
+
+sub-keep-needed-4 : tie.Need-sub-keep-needed-4
+sub-keep-needed-4 c = search needs
+
+part-keep-needed-start-4 : tie.Need-part-keep-needed-start-4
+part-keep-needed-start-4 c = search needs
+
+part-keep-needed-end-4 : tie.Need-part-keep-needed-end-4
+part-keep-needed-end-4 c =
+    let graph = c .before .before .before .before .before .before .before .before .before .before .before .before .before .before .before .before .before .before .before .before .before .before .before .before .before .before .before .before .before .before .before .before .before .before .before .before .args .graph in
+    omega (arith, table-room (graph .tasks) (frontEdges graph) _ (c .before .before .before .before .before .before .before .before .before .before .before .before .before .before .before .before .before .before .before .before .before .least-table .ensures))
+
+slice-aggregate-keep-needed : tie.Need-slice-aggregate-keep-needed
+slice-aggregate-keep-needed c = search needs
+
+slice-aggregate-keep-needed-2 : tie.Need-slice-aggregate-keep-needed-2
+slice-aggregate-keep-needed-2 c = search needs
+
+slice-aggregate-keep-needed-3 : tie.Need-slice-aggregate-keep-needed-3
+slice-aggregate-keep-needed-3 c = search needs
+
+keep-needed-requires : tie.Need-keep-needed-requires
+keep-needed-requires c κs =
+    let graph = c .before .before .before .before .before .before .before .before .before .before .before .before .before .before .before .before .before .before .before .before .before .before .before .before .before .before .before .before .before .before .before .before .before .before .before .before .before .before .before .before .args .graph in
+    let given = c .before .before .before .before .before .before .before .before .before .before .before .before .before .before .before .before .before .before .before .before .before .before .before .before .before .before .before .before .before .before .before .before .before .before .before .before .before .before .before .before .pre .1 in
+    let table = table-front (graph .tasks) (frontEdges graph) _ (c .before .before .before .before .before .before .before .before .before .before .before .before .before .before .before .before .before .before .before .before .before .before .before .before .before .least-table .ensures) in (
+      (part-sinks given, part-delays given),
+      (
+        (few-tasks given, part-few given, ap length table ∙ table-length (graph .tasks) (frontEdges graph)),
+        (part-ends given, c .before .before .before .before .before .before .before .before .before .before .before .before .before .before .blank-stage .ensures .1),
+      ),
+    )
+
+cast-t73 : tie.Need-cast-t73
+cast-t73 c = omega (arith, c .before .before .before .keep-needed .ensures .0)
+
+returns : tie.Need-returns
+returns c = λ g given.
+    let graph = c .before .before .before .before .before .before .before .before .before .before .before .before .before .before .before .before .before .before .before .before .before .before .before .before .before .before .before .before .before .before .before .before .before .before .before .before .before .before .before .before .before .before .before .before .args .graph in
+    let table = table-front (graph .tasks) (frontEdges graph) _ (c .before .before .before .before .before .before .before .before .before .before .before .before .before .before .before .before .before .before .before .before .before .before .before .before .before .before .before .before .before .least-table .ensures) in
+    let marks = c .before .before .before .before .before .before .before .before .before .before .before .before .before .before .before .before .before .before .before .redundant-marks .ensures g (held-graph given) in
+    let said = c .before .before .before .keep-needed .ensures in
+    held-stage (held-same (said .1 (frontEdges graph) (front-fit given) table) (sym (first-is given marks)) refl refl refl refl) (said .0)
+
+pub first-stage-spec : {M : Type 1} → statement M
+first-stage-spec =
+    tie.close
+    (tie.spec
+    cast-tasks
+    cast-end
+    add-end
+    blank-table-requires
+    sub-least-table
+    part-least-table-start
+    part-least-table-end
+    sub-least-table-2
+    part-least-table-start-2
+    part-least-table-end-2
+    sub-least-table-3
+    part-least-table-start-3
+    part-least-table-end-3
+    slice-aggregate-least-table
+    least-table-requires
+    sub-redundant-marks
+    part-redundant-marks-start
+    part-redundant-marks-end
+    sub-redundant-marks-2
+    part-redundant-marks-start-2
+    part-redundant-marks-end-2
+    sub-redundant-marks-3
+    part-redundant-marks-start-3
+    part-redundant-marks-end-3
+    mul-redundant-marks
+    sub-redundant-marks-4
+    part-redundant-marks-start-4
+    part-redundant-marks-end-4
+    redundant-marks-requires
+    blank-stage-requires
+    sub-keep-needed
+    part-keep-needed-start
+    part-keep-needed-end
+    sub-keep-needed-2
+    part-keep-needed-start-2
+    part-keep-needed-end-2
+    sub-keep-needed-3
+    part-keep-needed-start-3
+    part-keep-needed-end-3
+    mul-keep-needed
+    sub-keep-needed-4
+    part-keep-needed-start-4
+    part-keep-needed-end-4
+    slice-aggregate-keep-needed
+    slice-aggregate-keep-needed-2
+    slice-aggregate-keep-needed-3
+    keep-needed-requires
+    cast-t73
+    returns)

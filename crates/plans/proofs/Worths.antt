@@ -1,0 +1,276 @@
+-- What a pair of tasks is worth by numbers in lists is what it is worth in the plan: an entry of the table is 65,535 exactly where there is no path, and a
+-- pair is in time exactly if its source ends by the latest start of its sink.
+use mathlib.Core.Path.{_≡_, refl, sym, ap, _∙_, subst}
+use mathlib.Core.Logic.{_⊎_, inl, inr, _≢_}
+use mathlib.Core.Bool.{Bool, true, false, not, _&&_}
+use mathlib.Core.List.{List, [], _∷_, List·Memᴰ·head as here, List·Memᴰ·tail as there}
+use mathlib.Core.Option.{Option, none, some}
+use Prim.Native.Nat.{ℕ, _+_, _*_, _≤_, _<_, zero-le}
+use native.Mathlib.Nat.{le-refl}
+use native.Mathlib.Omega.{arith}
+use lib.Dec.{T, eqb, eqb→eq, eqb-refl, leb, leb→le, le→leb}
+use lib.ListN.{length, getD}
+use borrow.Author.Tests.{lt-leb}
+use Rattle.model.specs.Lists.{put, keep, counted, tabulate}
+use Rattle.model.specs.Tasks.{Edge, _∈_}
+use Rattle.model.specs.Graph.{Graph, count, timeOf, WellFormedEdges}
+use Rattle.model.specs.Paths.{Path, Least, smallest, no-path, stop, ZeroWalk, timesAlong, NoZeroCycle, Latency}
+use Rattle.model.specs.Compute.{atMost, plus, latency, latencyOf}
+use Rattle.model.specs.Proposals.{result, AcceptedGraph, AcceptedProposal}
+use Rattle.model.specs.Theorems.{Decides, OffCycles}
+use Rattle.model.specs.Plan.{presentEdges, withPair, Candidate, ifSame, counting, subsumes, gain, replaced, worth, step}
+use Rattle.model.proofs.Basics.{cases, is-true, is-false, and-left, and-right, and-both, order}
+use Rattle.model.proofs.Tests.{decides-iff, decides-true, decides-yes, decides-no, eqb-decides}
+use Rattle.model.proofs.Least.{least-delay}
+use Rattle.model.proofs.Bounds.{least-bound}
+use Rattle.model.proofs.Latency.{latency-is, latency-unique}
+use Rattle.model.proofs.Accepted.{off-cycles-of, acyclic-result}
+use Rattle.model.proofs.Pairs.{pair-in-time, present-pair, present-no-way, candidate-apart, pair-off-cycles}
+use Rattle.model.proofs.Choices.{present-latency, candidate-is, step-found, step-none}
+use Rattle.model.proofs.Stages.{keep-lengths}
+use Rattle.records.specs.Columns.{at}
+use Rattle.records.proofs.Fill.{length-tabulate, getD-tabulate}
+use Rattle.records.proofs.Rows.{rows-length, rows-at}
+use Rattle.delays.specs.Delays.{entry, Fit}
+use Rattle.starts.proofs.Limits.{turn-fits}
+use Rattle.latest.specs.Latest.{earliestEnds, InTimeFrom, LatestStarts}
+use Rattle.candidates.specs.Candidates.{countTable, tableAt, subsumesBy, candidateBy, worthBy, BestPair}
+use Rattle.verdicts.proofs.Tested.{result-fit}
+
+-- ── Tests, and what they keep ──
+
+-- tests that decide the same are equal
+decides-equal : {b c : Bool} {p : Type 0} → Decides b p → Decides c p → b ≡ c
+decides-equal {b} {c} x y = go (cases b)
+  where
+    go : T b ⊎ T (not b) → b ≡ c
+    go (inl t) = is-true b t ∙ sym (decides-yes y (x .if-true t))
+    go (inr t) = is-false b t ∙ sym (decides-no y (x .if-false t))
+
+-- tests that say the same of each element keep the same
+keep-equal : (t s : Edge → Bool) (xs : List Edge) → ((e : Edge) → e ∈ xs → t e ≡ s e) → keep t xs ≡ keep s xs
+unfolding keep
+keep-equal t s [] same = refl
+keep-equal t s (x ∷ xs) same = λ i. put (same x (here refl) i) x (keep-equal t s xs (λ e m. same e (there m)) i)
+
+counted-most : (b : Bool) (w : ℕ) → counted b w ≤ w
+unfolding counted
+counted-most true w = le-refl w
+counted-most false w = zero-le
+
+-- The lists hold the numbers of the present graph: least delays, ends, latest starts.
+pub record Prepared (g : Graph) (list : List Edge) (table end latest : List ℕ) : Type 0 where
+  pub table-is : table ≡ countTable (count g) (presentEdges g list)
+  pub end-is : end ≡ earliestEnds (count g) (presentEdges g list) (timeOf g)
+  pub latest-is : LatestStarts (count g) (presentEdges g list) (timeOf g) (g .output) (g .bound) latest
+
+-- ── The table ──
+
+module _ (n : ℕ) (es : List Edge) where
+  row-length : (a : ℕ) → length (tabulate n (λ b. entry (counting n es a b))) ≡ n
+  row-length a = length-tabulate n (λ b. entry (counting n es a b))
+
+  pub counts-length : length (countTable n es) ≡ n * n
+  unfolding countTable
+  counts-length = rows-length n (λ a. tabulate n (λ b. entry (counting n es a b))) row-length n
+
+  counts-at : (a b : ℕ) → a < n → b < n → tableAt n (countTable n es) a b ≡ entry (counting n es a b)
+  unfolding countTable tableAt at
+  counts-at a b la lb =
+      rows-at n (λ c. tabulate n (λ d. entry (counting n es c d))) row-length n a b la lb ∙ getD-tabulate n (λ d. entry (counting n es a d)) 0 b lb
+
+-- a sum with 65,535, for none, is above every delay
+sum-by-entries : (x y : Option ℕ) (delay : ℕ) → delay ≤ 255 → leb (entry x + entry y) delay ≡ atMost (plus x y) delay
+unfolding entry atMost plus
+sum-by-entries (some x) (some y) delay small = refl
+sum-by-entries (some x) none delay small = lt-leb (x + 65535) delay (omega arith)
+sum-by-entries none y delay small = lt-leb (65535 + entry y) delay (omega arith)
+
+-- an entry below 65,535 is not the one for none
+finite : (d : ℕ) (other : Bool) → d < 65535 → T (eqb d 65535 && other) → ⊥
+finite d other l t = let q = eqb→eq d 65535 (and-left (eqb d 65535) other t) in omega arith
+
+module _ (g : Graph) (list : List Edge) (graph : AcceptedGraph g) (formed : WellFormedEdges (count g) list) (accepted : AcceptedProposal g list) where
+  off : OffCycles g list
+  off = off-cycles-of g list graph formed (accepted .off-cycles)
+
+  present-fit : Fit (count g) (presentEdges g list)
+  unfolding presentEdges
+  present-fit = result-fit g list (graph .formed) formed
+
+  acyclic : NoZeroCycle (presentEdges g list)
+  unfolding presentEdges
+  acyclic = acyclic-result g list off
+
+  -- the latency of the present graph, which is within the bound
+  now-in-time : (l : ℕ) × Latency (presentEdges g list) (timeOf g) (g .output) l × (l ≤ g .bound)
+  unfolding presentEdges
+  now-in-time = accepted .in-time
+
+  pub latency-within : latencyOf (result g list) ≤ g .bound
+  latency-within =
+      let r = now-in-time in subst (λ (l : ℕ). l ≤ g .bound) (latency-unique (r .1) (present-latency g list off)) (r .2)
+
+  -- the task's end in the first turn, which the largest sum along a path of delay 0 to it gives
+  abbrev endOf : ℕ → ℕ
+  endOf a = latency (count g) (presentEdges g list) (timeOf g) a
+
+  end-is-latency : (a : ℕ) → Latency (presentEdges g list) (timeOf g) a (endOf a)
+  end-is-latency a = latency-is (count g) (presentEdges g list) (present-fit .ends) acyclic (timeOf g) a
+
+  end-small : (a : ℕ) → a < count g → endOf a ≤ 268435456
+  unfolding latency
+  end-small a la =
+      turn-fits (present-fit .ends) acyclic {time = timeOf g} (λ v below. graph .formed .times v below .0) (graph .formed .at-most-64)
+      (λ v below. graph .formed .times v below .1) a 1 la (omega arith) (omega arith)
+
+  module _ {table end latest : List ℕ} (ready : Prepared g list table end latest) where
+    entry-at : (a b : ℕ) → a < count g → b < count g → tableAt (count g) table a b ≡ entry (counting (count g) (presentEdges g list) a b)
+    entry-at a b la lb = ap (λ (t : List ℕ). tableAt (count g) t a b) (ready .table-is) ∙ counts-at (count g) (presentEdges g list) a b la lb
+
+    subsumes-by : (a b : ℕ) → a < count g → b < count g → (e : Edge) → e ∈ list →
+        subsumesBy (count g) table a b e ≡ subsumes (count g) (presentEdges g list) a b e
+    unfolding subsumesBy subsumes
+    subsumes-by a b la lb e m =
+        (λ i. leb (entry-at (e .source) a (formed .ends e m .0) la i + entry-at b (e .sink) lb (formed .ends e m .1) i) (e .delay)) ∙
+        sum-by-entries (counting (count g) (presentEdges g list) (e .source) a) (counting (count g) (presentEdges g list) b (e .sink)) (e .delay)
+        (formed .delays e m)
+
+    pub replaced-by : (a b : ℕ) → a < count g → b < count g →
+        withPair (keep (λ e. not (subsumesBy (count g) table a b e)) list) a b ≡ replaced g list a b
+    unfolding replaced
+    replaced-by a b la lb =
+        ap (λ (es : List Edge). withPair es a b)
+        (keep-equal (λ e. not (subsumesBy (count g) table a b e)) (λ e. not (subsumes (count g) (presentEdges g list) a b e)) list
+        (λ e m. ap not (subsumes-by a b la lb e m)))
+
+    end-at : (a : ℕ) → a < count g → at end a ≡ endOf a
+    unfolding earliestEnds at
+    end-at a la = ap (λ (xs : List ℕ). getD xs a 0) (ready .end-is) ∙ getD-tabulate (count g) (latency (count g) (presentEdges g list) (timeOf g)) 0 a la
+
+    latest-at : (a b : ℕ) → a < count g → b < count g → T (leb (at end a) (at latest b)) →
+        InTimeFrom (presentEdges g list) (timeOf g) (g .output) (g .bound) b (endOf a)
+    latest-at a b la lb t =
+        ready .latest-is .latest b (endOf a) lb (omega (arith, end-small a la)) .0
+        (subst (λ (h : ℕ). h ≤ at latest b) (end-at a la) (leb→le (at end a) (at latest b) t))
+
+    at-latest : (a b : ℕ) → a < count g → b < count g → InTimeFrom (presentEdges g list) (timeOf g) (g .output) (g .bound) b (endOf a) →
+        T (leb (at end a) (at latest b))
+    at-latest a b la lb early =
+        le→leb (at end a) (at latest b)
+        (subst (λ (h : ℕ). h ≤ at latest b) (sym (end-at a la)) (ready .latest-is .latest b (endOf a) lb (omega (arith, end-small a la)) .1 early))
+
+    -- Where no path leads back, the two sums of a path over the pair are the largest to a, which is its end, and any from b.
+    in-time-by : (a b : ℕ) → a < count g → b < count g → ((d : ℕ) → Path (presentEdges g list) b a d → ⊥) →
+        Decides (leb (at end a) (at latest b)) ((l : ℕ) × Latency (presentEdges g (withPair list a b)) (timeOf g) (g .output) l × (l ≤ g .bound))
+    in-time-by a b la lb none-back = decides-iff to from
+      where
+        m : ℕ
+        m = latencyOf (result g (withPair list a b))
+
+        whole : Latency (presentEdges g (withPair list a b)) (timeOf g) (g .output) m
+        whole = present-latency g (withPair list a b) (pair-off-cycles g list off a b la lb none-back)
+
+        apart : b ≢ a
+        apart q = present-no-way g list lb none-back [] (stop q)
+
+        Sums : Type 0
+        Sums =
+            (x : ℕ) (p q : List Edge) → ZeroWalk (presentEdges g list) x p a → ZeroWalk (presentEdges g list) b q (g .output) →
+            timesAlong (timeOf g) x p + timesAlong (timeOf g) b q ≤ g .bound
+
+        to-sums : m ≤ g .bound → Sums
+        to-sums =
+            pair-in-time (presentEdges g list) a b none-back apart (timeOf g) (g .output) (g .bound) (now-in-time .0) m (now-in-time .1) (now-in-time .2)
+            (subst (λ (es : List Edge). Latency es (timeOf g) (g .output) m) (present-pair g list a b) whole) .0
+
+        from-sums : Sums → m ≤ g .bound
+        from-sums =
+            pair-in-time (presentEdges g list) a b none-back apart (timeOf g) (g .output) (g .bound) (now-in-time .0) m (now-in-time .1) (now-in-time .2)
+            (subst (λ (es : List Edge). Latency es (timeOf g) (g .output) m) (present-pair g list a b) whole) .1
+
+        to : T (leb (at end a) (at latest b)) → (l : ℕ) × Latency (presentEdges g (withPair list a b)) (timeOf g) (g .output) l × (l ≤ g .bound)
+        to t = (m, whole, from-sums sums)
+          where
+            sums : Sums
+            sums x p q v w =
+                let first = end-is-latency a .largest x p v in
+                let both = latest-at a b la lb t q w in
+                omega arith
+
+        from : (l : ℕ) × Latency (presentEdges g (withPair list a b)) (timeOf g) (g .output) l × (l ≤ g .bound) → T (leb (at end a) (at latest b))
+        from r = at-latest a b la lb early
+          where
+            within : m ≤ g .bound
+            within = subst (λ (l : ℕ). l ≤ g .bound) (latency-unique (r .1) whole) (r .2)
+
+            early : InTimeFrom (presentEdges g list) (timeOf g) (g .output) (g .bound) b (endOf a)
+            early q w =
+                let s = end-is-latency a .reached in
+                let same = s .3 in
+                let both = to-sums within (s .0) (s .1) q (s .2) w in
+                omega arith
+
+    candidate-by : (a b : ℕ) → a < count g → b < count g → Decides (candidateBy (count g) table end latest a b) (Candidate g list a b)
+    unfolding candidateBy counting ifSame entry
+    candidate-by a b la lb =
+        subst (λ (x : ℕ). Decides (eqb x 65535 && leb (at end a) (at latest b)) (Candidate g list a b)) (sym (entry-at b a lb la))
+        (go (eqb b a) (eqb-decides b a) (least-delay (count g) (presentEdges g list) (present-fit .ends) b a))
+      where
+        early : Bool
+        early = leb (at end a) (at latest b)
+
+        go : (same : Bool) → Decides same (b ≡ a) → {o : Option ℕ} → Least (presentEdges g list) b a o →
+            Decides (eqb (entry (ifSame same o)) 65535 && leb (at end a) (at latest b)) (Candidate g list a b)
+        go true same l = decides-iff (λ t. absurd (finite 0 early (omega arith) t)) (λ c. absurd (candidate-apart g list c (same .if-true tt)))
+        go false same (smallest {d = d} path below) =
+            let least : Least (presentEdges g list) b a (some d) = smallest path below in
+            let short = least-bound (count g) 255 (presentEdges g list) (present-fit .ends) (present-fit .delays) b a d least in
+            decides-iff (λ t. absurd (finite d early (omega (arith, short, graph .formed .at-most-64)) t)) (λ c. absurd (c .no-path-back d path))
+        go false same (no-path none-back) =
+            let timely = in-time-by a b la lb none-back in
+            decides-iff
+            (λ t. record { source-task = la; sink-task = lb; no-path-back = none-back; in-time = timely .if-true (and-right (eqb 65535 65535) early t) })
+            (λ c. and-both (eqb 65535 65535) early (eqb-refl 65535) (decides-true timely (c .in-time)))
+
+    worth-by : (a b : ℕ) → a < count g → b < count g → worthBy (count g) table end latest list a b ≡ worth g list a b
+    unfolding worthBy worth gain
+    worth-by a b la lb =
+        let same = decides-equal (candidate-by a b la lb) (candidate-is g list off a b la lb) in
+        let kept =
+        keep-equal (subsumesBy (count g) table a b) (subsumes (count g) (presentEdges g list) a b) list (subsumes-by a b la lb) in
+        λ i. counted (same i) (length (kept i))
+
+    -- ── The pair that is worth most ──
+
+    module _ {m a b : ℕ} (best : BestPair (count g) (worthBy (count g) table end latest list) m a b) where
+      pub best-taken : 2 ≤ m → step g list ≡ some (replaced g list a b)
+      best-taken two =
+          let la = best .source-below two in
+          let lb = best .sink-below two in
+          step-found g list m a b two la lb (sym (worth-by a b la lb) ∙ best .worth-is two)
+          (λ c d lc ld h.
+          subst (λ (w : ℕ). w ≤ m) (worth-by c d lc ld) (best .most c d lc ld (subst (λ (w : ℕ). 2 ≤ w) (sym (worth-by c d lc ld)) h)))
+          (λ c d lc ld q. best .first two c d lc ld (worth-by c d lc ld ∙ q))
+
+      pub best-none : m < 2 → step g list ≡ none
+      best-none few = step-none g list below
+        where
+          below : (c d : ℕ) → c < count g → d < count g → worth g list c d < 2
+          below c d lc ld = go (order 2 (worth g list c d))
+            where
+              go : (2 ≤ worth g list c d) ⊎ (worth g list c d < 2) → worth g list c d < 2
+              go (inl h) =
+                  let same = worth-by c d lc ld in
+                  let most = best .most c d lc ld (omega arith) in
+                  absurd (omega arith)
+              go (inr h) = h
+
+      -- there is room for the pair, since it subsumes two edges
+      pub best-room : 2 ≤ m → length (keep (λ e. not (subsumesBy (count g) table a b e)) list) < 256
+      unfolding worthBy
+      best-room two =
+          let gained = best .worth-is two in
+          let most = counted-most (candidateBy (count g) table end latest a b) (length (keep (subsumesBy (count g) table a b) list)) in
+          let parts = keep-lengths (subsumesBy (count g) table a b) list in
+          omega (arith, gained, most, parts, formed .few)
