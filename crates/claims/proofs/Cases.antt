@@ -18,7 +18,8 @@ use Rattle.model.specs.Paths.{syncAt}
 use Rattle.model.specs.Compute.{leastDelay, isRedundant, sameEdge, zeroCycle, inputFree, joined, earliest, latency, latencyOf, onCycle, orderHolds}
 use Rattle.model.specs.Proposals.{result}
 use Rattle.model.specs.Example.{edge, deskBound, looped as loopedEdges}
-use Rattle.model.proofs.Example.{desk-on-cycle}
+use Rattle.model.specs.Plan.{Planned, planOf, planLatency}
+use Rattle.model.proofs.Example.{desk-on-cycle, desk-plan, desk-plan-at-nine}
 use Rattle.records.specs.Columns.{rows}
 use Rattle.marks.specs.Marks.{number, wordOf, marksOf}
 use Rattle.layout.specs.Layout.{graphHeader, proposalHeader, taskAt, edgeAt, filling}
@@ -28,15 +29,18 @@ use Rattle.files.specs.Files.{edgesFrom, graphOf, proposalOf, edgeIn, endOutsid
 use Rattle.files.proofs.First.{number-same, if-passed}
 use Rattle.delays.specs.Delays.{entry, delayRow, delayTable}
 use Rattle.starts.specs.Starts.{turnRow, turnRows}
+use Rattle.stages.specs.Stages.{writtenInto}
 use Rattle.schedule.specs.Schedule.{scheduleChecks, scheduleRefusal, acceptanceRefusal}
 use Rattle.schedule.proofs.Judged.{accepted-iff-passed}
 use Rattle.verdicts.specs.Verdicts.{someOnCycle, lostRefusal, judgedRefusal, OpenPlace}
 use Rattle.resync.specs.declared.ProposalVerdict.{ProposalVerdict}
 use Rattle.resync.specs.Calls.{outcome, tasksOf, tableOf, delaysRefusal, delaysAfter, noMarks, redundantOf, startsOf, timetableRefusal, timetableAfter}
+use Rattle.resync.specs.Plan.{planRefusal, planAnswerOf, planAfter}
+use Rattle.resync.proofs.Planned.{plan-given, plan-plain}
 use Rattle.resync.specs.Theorems.{AcceptedFile}
 use Rattle.resync.specs.Verdict.{VerdictAnswer, verdictOf, verdictRefusal, toldLate, countedMargin, margin, resultLatency}
 use Rattle.resync.proofs.Meanings.{delays-given, timetable-given, success-plain}
-use Rattle.claims.specs.Cases.{Case, delays, first-word, starts, verdict, on-cycle, accepted, refused, Holds, deskFile, desk, exampleProposal, emptyProposal, firstOnly, delayed, looped, cases, AllHold}
+use Rattle.claims.specs.Cases.{Case, delays, first-word, starts, plan, verdict, on-cycle, accepted, refused, Holds, deskFile, desk, exampleProposal, emptyProposal, firstOnly, delayed, looped, cases, AllHold}
 
 -- ── The graph files ──
 
@@ -322,6 +326,46 @@ looped-on-cycle r = (to, back)
               (subst (λ (g : Graph). OpenPlace g loopedEdges place) (sym desk-is) (open-place place listed)));
         }
 
+-- ── Plans ──
+
+-- the plan of a desk's file, from that of its graph
+module _ (byte l : ℕ) (es : List Edge) (steps latency : ℕ) (is : graphOf (deskFile byte) ≡ deskBound l) (accepted-file : AcceptedFile (deskFile byte))
+    (plan-is : planOf (deskBound l) ≡ record { list = es; steps = steps }) (latency-is : planLatency (deskBound l) ≡ latency) where
+  planned : planOf (graphOf (deskFile byte)) ≡ record { list = es; steps = steps }
+  planned = ap planOf is ∙ plan-is
+
+  plan-holds : Holds (plan (deskFile byte) es steps latency)
+  unfolding outcome planAnswerOf planAfter
+  plan-holds lent room = (
+    λ i. record {
+      outcome = outcome (plain i);
+      length = (passed (length (planOf (graphOf (deskFile byte)) .list)) 0 ∙ ap (λ (p : Planned). length (p .list)) planned) i;
+      steps = (passed (planOf (graphOf (deskFile byte)) .steps) 0 ∙ ap (λ (p : Planned). p .steps) planned) i;
+      latency = (passed (planLatency (graphOf (deskFile byte))) 0 ∙ (ap planLatency is ∙ latency-is)) i;
+    },
+    if-passed number (writtenInto lent (planOf (graphOf (deskFile byte)) .list)) lent none ∙ ap (λ (p : Planned). writtenInto lent (p .list)) planned,
+  )
+    where
+      number : ℕ
+      number = planRefusal (deskFile byte) (length lent) .number
+
+      none : number ≡ 0
+      none = plan-given (deskFile byte) (length lent) .1 (accepted-file, room)
+
+      plain : planRefusal (deskFile byte) (length lent) ≡ notRefused
+      plain = plan-plain (deskFile byte) (length lent) none
+
+      passed : (given refused : ℕ) → ifPassed number given refused ≡ given
+      passed given refused = if-passed number given refused none
+
+plan-at-12 : Holds (plan desk (edge 1 2 0 ∷ []) 1 10)
+plan-at-12 = plan-holds 12 12 (edge 1 2 0 ∷ []) 1 10 desk-is desk-accepted (desk-plan .0) (desk-plan .1)
+
+plan-at-9 : Holds (plan (deskFile 9) (edge 0 2 0 ∷ edge 1 3 0 ∷ []) 0 9)
+plan-at-9 =
+    plan-holds 9 9 (edge 0 2 0 ∷ edge 1 3 0 ∷ []) 0 9 desk-9-is (accepted-iff-passed (deskFile 9) .0 (number-same desk-9-passes)) (desk-plan-at-nine .0)
+    (desk-plan-at-nine .1)
+
 -- ── All of them ──
 
 -- a proof for each case of a list
@@ -348,4 +392,6 @@ all-hold =
     then first-loses
     then delayed-loses
     then looped-on-cycle
+    then plan-at-12
+    then plan-at-9
     then no-more)

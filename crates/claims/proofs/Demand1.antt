@@ -6,17 +6,20 @@ use mathlib.Core.List.{List}
 use Prim.Native.Nat.{ℕ, _*_, _<_}
 use native.Mathlib.Omega.{arith}
 use lib.IntN.{pos}
+use lib.ListN.{length}
 use Rattle.files.specs.declared.Refusal.{Refusal}
-use Rattle.files.specs.Files.{taskCount, graphRefusal, proposalRefusal}
+use Rattle.files.specs.Files.{taskCount, edgeCount, graphRefusal, proposalRefusal}
 use Rattle.readings.specs.Working.{graphReading, proposalReading}
 use Rattle.readings.proofs.Held.{graph-refusal-given, proposal-refusal-given}
 use Rattle.schedule.specs.Schedule.{acceptanceRefusal}
 use Rattle.resync.specs.declared.Outcome.{Outcome}
 use Rattle.resync.specs.Calls.{outcome, figuresOf, redundantOf, delaysRefusal, timetableRefusal}
+use Rattle.resync.specs.Plan.{planRefusal, planAnswerOf}
+use Rattle.resync.proofs.Planned.{plan-plain, plan-refused, plan-kept}
 use Rattle.resync.proofs.Meanings.{figures-refused, redundant-refused, success-plain, delays-kept, timetable-kept}
-use Rattle.claims.specs.Demand1.{Sequence, Says, _when_, graphFileChecks, proposalFileChecks, graphChecks, delaysChecks, timetableChecks, verdictChecks, Obeys, Demand1}
+use Rattle.claims.specs.Demand1.{Sequence, Says, _when_, graphFileChecks, proposalFileChecks, graphChecks, delaysChecks, timetableChecks, planChecks, verdictChecks, Obeys, Demand1}
 use Rattle.claims.proofs.Sequences.{Follows, says, All, all-both, OnePlace, settled, says-one}
-use Rattle.claims.proofs.Followed.{graph-file-follows, graph-file-earlier, proposal-file-follows, proposal-file-earlier, graph-follows, graph-earlier, delays-follow, timetable-follows}
+use Rattle.claims.proofs.Followed.{graph-file-follows, graph-file-earlier, proposal-file-follows, proposal-file-earlier, graph-follows, graph-earlier, delays-follow, timetable-follows, plan-follows}
 use Rattle.claims.proofs.Passed.{graph-file-plain, proposal-file-plain}
 use Rattle.claims.proofs.Answered.{answered}
 use Rattle.claims.proofs.Verdicts.{verdict-settled, verdict-says, place-passed, verdict-unnamed, verdict-plain, verdict-late}
@@ -54,6 +57,10 @@ unfolding timetableChecks
 timetable-settled s turns room =
     (no-place, all-both OnePlace (graphChecks s) (16 when room < taskCount s * turns) (graph-settled s) (no-place, tt))
 
+plan-settled : (s : List ℕ) (room : ℕ) → All OnePlace (planChecks s room)
+unfolding planChecks
+plan-settled s room = all-both OnePlace (graphChecks s) (16 when room < edgeCount s) (graph-settled s) (no-place, tt)
+
 -- no place where nothing is refused
 graph-nowhere : (s : List ℕ) → acceptanceRefusal s .number ≡ 0 → acceptanceRefusal s .place ≡ 0
 graph-nowhere s none = ap (λ (r : Refusal). r .place) (success-plain s 0 0 .0 none)
@@ -63,6 +70,12 @@ delays-nowhere s room none = ap (λ (r : Refusal). r .place) (success-plain s 0 
 
 timetable-nowhere : (s : List ℕ) (turns room : ℕ) → timetableRefusal s turns room .number ≡ 0 → timetableRefusal s turns room .place ≡ 0
 timetable-nowhere s turns room none = ap (λ (r : Refusal). r .place) (success-plain s turns room .2 none)
+
+plan-obeys : (s : List ℕ) (room : ℕ) → Obeys (planChecks s room) (planAnswerOf s room .outcome)
+unfolding planAnswerOf
+plan-obeys s room =
+    obeys-plainly (planChecks s room) (plan-settled s room) (planRefusal s room) (plan-follows s room)
+    (λ none. ap (λ (r : Refusal). r .place) (plan-plain s room none))
 
 figures-obey : (s : List ℕ) → Obeys (graphChecks s) (figuresOf s .outcome)
 unfolding figuresOf
@@ -85,6 +98,11 @@ read-proposal-obeys n p =
     (obeys-plainly (proposalFileChecks n p) (settled (proposalFileChecks n p) (proposal-file-earlier {k = n} {n = n} refl p)) (proposalRefusal n p)
     (proposal-file-follows {k = n} {n = n} refl p) (λ none. ap (λ (r : Refusal). r .place) (proposal-file-plain n p none)))
 
+-- the outcome's number is the refusal's
+plan-number : (s : List ℕ) (room : ℕ) → planAnswerOf s room .outcome .number ≡ planRefusal s room .number
+unfolding planAnswerOf outcome
+plan-number s room = refl
+
 pub demand1-met : Demand1
 demand1-met =
     record {
@@ -100,6 +118,9 @@ demand1-met =
           obeys-plainly (timetableChecks s turns room) (timetable-settled s turns room) (timetableRefusal s turns room)
           (timetable-follows s turns room) (timetable-nowhere s turns room);
       timetable-kept = timetable-kept;
+      plan = plan-obeys;
+      plan-refused = λ s room some. plan-refused s room (λ none. some (plan-number s room ∙ none));
+      plan-kept = λ s list some. plan-kept s list (λ none. some (plan-number s (length list) ∙ none));
       answered = answered;
       verdict = λ s p r answer.
           obeys (verdictChecks s p) (verdict-settled s p) (r .outcome) (verdict-says s p r answer)

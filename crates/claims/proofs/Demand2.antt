@@ -1,8 +1,8 @@
 -- Demand 2, proved: each number is given by a function of the model whose meaning the model proves, in the place that the rows give it (resync's
 -- Meanings). Here those meanings are read off the answers themselves: numbers in lists, bits of words, and of a verdict its latency and margin.
 use mathlib.Core.Path.{_≡_, refl, sym, ap, _∙_, subst}
-use mathlib.Core.Logic.{_↔_, _⊎_, inl, inr}
-use mathlib.Core.Bool.{Bool, cond}
+use mathlib.Core.Logic.{_↔_, _⊎_, inl, inr, _≢_}
+use mathlib.Core.Bool.{Bool, cond, not}
 use mathlib.Core.List.{List, List·Memᴰ}
 use mathlib.Core.Option.{Option, none, some}
 use Prim.Native.Nat.{ℕ, zero, suc, _+_, _-_, _/_, _%_, _^_, _≤_, _<_}
@@ -13,19 +13,24 @@ use lib.IntN.{pos, negsuc, _-ℤ_}
 use lib.ListN.{length, getD, take, List·getD-append}
 use lib.Seq.{take-at}
 use borrow.Author.Tests.{lt-ltb, le-ltb}
-use Rattle.model.specs.Lists.{sumOver, sumBelow, counted, always}
+use Rattle.model.specs.Lists.{keep, sumOver, sumBelow, counted, always}
 use Rattle.model.specs.Tasks.{Edge, _∈_, Ends}
 use Rattle.model.specs.Graph.{count, edges, timeOf}
 use Rattle.model.specs.Paths.{Least, Redundant, Latency, NoneOnCycle}
 use Rattle.model.specs.Runs.{Times, Keeps, Earliest, estimates, MissesBound}
+use Rattle.model.specs.Compute.{isFeedback}
 use Rattle.model.specs.Proposals.{result}
+use Rattle.model.specs.Plan.{presentEdges, Plan, planOf}
 use Rattle.model.specs.Theorems.{Decides}
 use Rattle.model.proofs.Basics.{eq→eqb}
 use Rattle.model.proofs.Tests.{decides-true, decides-yes, decides-no, decided, eqb-decides}
 use Rattle.model.proofs.Graphs.{graph-ends}
 use Rattle.model.proofs.Theorems.{least-unique, result-misses}
+use Rattle.model.proofs.Plans.{stage-shrinks, plan-is, plan-unique}
+use Rattle.layout.specs.declared.EdgeRecord.{EdgeRecord}
 use Rattle.files.specs.Files.{graphOf, proposalOf}
-use Rattle.files.proofs.First.{if-passed}
+use Rattle.files.specs.Refusals.{ifPassed}
+use Rattle.files.proofs.First.{zero-or-not, if-passed, if-refused}
 use Rattle.marks.specs.declared.Marks.{Marks}
 use Rattle.marks.specs.Marks.{bitOf, markAt, setBelow, placesBelow, placesOf}
 use Rattle.marks.proofs.Listed.{places-counted, places-ascend}
@@ -37,7 +42,10 @@ use Rattle.resync.specs.Calls.{outcome, tasksOf, delaysAfter, redundantOf, time
 use Rattle.resync.specs.Theorems.{AcceptedFile}
 use Rattle.resync.specs.Verdict.{VerdictAnswer, verdictOf, verdictRefusal, toldLate, countedMargin, margin, resultLatency}
 use Rattle.resync.proofs.Meanings.{figures-given, redundant-given, delays-given, timetable-given, figures-mean, figures-run, delays-mean, delays-small, redundant-mean, redundant-counted, delays-past, timetable-past, redundant-listed, timetable-mean, timetable-runs}
-use Rattle.claims.specs.Demand2.{Demand2, delayIn, markBit, startIn}
+use Rattle.stages.specs.Stages.{listed}
+use Rattle.resync.specs.Plan.{planRefusal, planAnswerOf, planAfter}
+use Rattle.resync.proofs.Planned.{plan-given, plan-refused, plan-past, plan-means}
+use Rattle.claims.specs.Demand2.{Demand2, delayIn, markBit, startIn, planListed}
 use Rattle.claims.specs.Demand3.{WellFormedFile}
 use Rattle.claims.proofs.Answer.{number-is, only-judged, all-passed, edges-formed, sentenced}
 
@@ -151,7 +159,7 @@ margin-beyond bound (suc l) beyond =
 module _ (s p : List ℕ) (r : ProposalVerdict) (answer : VerdictAnswer s p r) where
   -- what is told of an accepted proposal
   module _ (given : r .outcome .number ≡ 0) where
-    latency-told : r .latency ≡ resultLatency s p
+    pub latency-told : r .latency ≡ resultLatency s p
     unfolding verdictOf
     latency-told =
         ap (λ (x : ProposalVerdict). x .latency) (answer .settled) ∙
@@ -228,8 +236,60 @@ module _ (s p : List ℕ) (r : ProposalVerdict) (answer : VerdictAnswer s p r) w
       go graph formed is (late because off runs misses) = (latency-meant graph formed off, misses-iff graph formed off .0 misses)
       go graph formed is (accepted because off runs meets) = absurd (omega (arith, is, because))
 
+-- ── The plan ──
+
+-- the outcome's number is the refusal's
+pub plan-not-refused : (s : List ℕ) (room : ℕ) → planAnswerOf s room .outcome .number ≡ 0 → planRefusal s room .number ≡ 0
+unfolding planAnswerOf outcome
+plan-not-refused s room passed = passed
+
+plan-told : (s : List ℕ) (room : ℕ) → planRefusal s room .number ≡ 0 → planAnswerOf s room .outcome .number ≡ 0
+unfolding planAnswerOf outcome
+plan-told s room passed = passed
+
+-- there is one plan only
+module _ (s : List ℕ) (list : List EdgeRecord) (passed : planRefusal s (length list) .number ≡ 0) (steps : ℕ) (es : List Edge) where
+  the-plan : Plan (graphOf s) steps es ↔ ((planAnswerOf s (length list) .steps ≡ steps) × (planListed s list ≡ es))
+  the-plan = (λ other. plan-unique (graphOf s) _ steps _ es own other, λ same. moved (same .0) (same .1))
+    where
+      own : Plan (graphOf s) (planAnswerOf s (length list) .steps) (planListed s list)
+      own = plan-means s list passed .0
+
+      moved : planAnswerOf s (length list) .steps ≡ steps → planListed s list ≡ es → Plan (graphOf s) steps es
+      moved p q = subst (λ (k : ℕ). Plan (graphOf s) k es) p (subst (λ (xs : List Edge). Plan (graphOf s) (planAnswerOf s (length list) .steps) xs) q own)
+
+plan-small : (s : List ℕ) (room : ℕ) →
+    planAnswerOf s room .length + planAnswerOf s room .steps ≤ length (keep (λ e. not (isFeedback (graphOf s) e)) (graphOf s .syncs))
+unfolding planAnswerOf
+plan-small s room = go (zero-or-not (planRefusal s room .number))
+  where
+    go : (planRefusal s room .number ≡ 0) ⊎ (planRefusal s room .number ≢ 0) →
+        ifPassed (planRefusal s room .number) (length (planOf (graphOf s) .list)) 0 + ifPassed (planRefusal s room .number) (planOf (graphOf s) .steps) 0
+        ≤ length (keep (λ e. not (isFeedback (graphOf s) e)) (graphOf s .syncs))
+    go (inl passed) =
+        let all = stage-shrinks (graphOf s) (planOf (graphOf s) .steps) (planOf (graphOf s) .list)
+        (plan-is (graphOf s) ((plan-given s room) .0 passed .0 .1) .stage) in
+        let length-is = if-passed (planRefusal s room .number) (length (planOf (graphOf s) .list)) 0 passed in
+        let steps-is = if-passed (planRefusal s room .number) (planOf (graphOf s) .steps) 0 passed in
+        omega (arith, all, length-is, steps-is)
+    go (inr refused) =
+        let length-is = if-refused (planRefusal s room .number) (length (planOf (graphOf s) .list)) 0 refused in
+        let steps-is = if-refused (planRefusal s room .number) (planOf (graphOf s) .steps) 0 refused in
+        omega (arith, length-is, steps-is)
+
+plan-as-long : (s : List ℕ) (list : List EdgeRecord) → length (planListed s list) ≡ planAnswerOf s (length list) .length
+unfolding listed
+plan-as-long s list = go (zero-or-not (planRefusal s (length list) .number))
+  where
+    go : (planRefusal s (length list) .number ≡ 0) ⊎ (planRefusal s (length list) .number ≢ 0) →
+        length (planListed s list) ≡ planAnswerOf s (length list) .length
+    go (inl passed) = plan-means s list passed .1
+    go (inr refused) =
+        let z = plan-refused s (length list) refused .0 in
+        ap (λ (k : ℕ). length (listed k (planAfter s list))) z ∙ sym z
+
 pub demand2-met : Demand2
-unfolding outcome tasksOf
+unfolding outcome tasksOf presentEdges
 demand2-met =
     record {
       delays-given = λ s table. delays-given s (length table);
@@ -271,6 +331,13 @@ demand2-met =
           same-run (tasksOf s) (edges (graphOf s)) turns (run .0) (startIn (tasksOf s) (timetableAfter s turns starts)) (estimates (timeOf (graphOf s)))
           (graph-ends (graphOf s) (graph .1 .formed .syncs-formed .ends)) (run .1) (timetable-mean s turns starts given (run .0) (run .1));
       timetable-past = timetable-past;
+      plan-given = λ s room.
+          (λ passed. plan-given s room .0 (plan-not-refused s room passed), λ ok. plan-told s room (plan-given s room .1 ok));
+      plan = λ s list passed. the-plan s list (plan-not-refused s (length list) passed);
+      plan-length = plan-as-long;
+      plan-latency = λ s list passed. plan-means s list (plan-not-refused s (length list) passed) .2;
+      plan-few = plan-small;
+      plan-past = plan-past;
       result-latency = λ s p r answer given. subst (Latency _ _ _) (sym (latency-told s p r answer given)) (accepted-told s p r answer given .0);
       margin = margin-told;
       in-time = λ s p r answer given.

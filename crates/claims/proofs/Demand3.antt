@@ -1,30 +1,44 @@
 -- Demand 3, proved. Where the graph is accepted and the proposal well-formed, the proposed edges are sentenced by their result's cycles, runs and
 -- lateness: which of the four sentences it is decides every equivalence. What is accepted by runs is accepted by 01's words, and of that the model shows
 -- the rest.
-use mathlib.Core.Path.{_≡_, refl, sym, _∙_}
+use mathlib.Core.Path.{_≡_, refl, sym, ap, _∙_, subst}
 use mathlib.Core.Logic.{_↔_}
 use mathlib.Core.List.{List}
 use Prim.Native.Nat.{ℕ, _≤_}
 use native.Mathlib.Nat.{le-trans}
 use native.Mathlib.Omega.{arith}
+use lib.ListN.{length}
 use Rattle.model.specs.Tasks.{Edge, _∈_, Ends}
-use Rattle.model.specs.Graph.{Graph, count, edges, timeOf}
+use Rattle.model.specs.Lists.{counted}
+use Rattle.model.specs.Graph.{Graph, WellFormedEdges, count, edges, timeOf}
 use Rattle.model.specs.Paths.{OnCycle, NoneOnCycle}
 use Rattle.model.specs.Runs.{RunsAllowed, SomeRunBreaks}
-use Rattle.model.specs.Compute.{earliest}
-use Rattle.model.specs.Proposals.{AcceptedGraph, AcceptedProposal}
+use Rattle.model.specs.Compute.{earliest, latencyOf}
+use Rattle.model.specs.Proposals.{result, AcceptedGraph, AcceptedProposal}
+use Rattle.model.specs.Plan.{planOf, planLatency}
 use Rattle.model.specs.Theorems.{Resynchronizes}
 use Rattle.model.proofs.Graphs.{graph-ends}
 use Rattle.model.proofs.Theorems.{earliest-run, never-stalls-iff, first-output, accepted-result, accepted-iff}
+use Rattle.model.proofs.Stages.{stage-accepted, stage-resynchronizes}
+use Rattle.model.proofs.Plans.{plan-is}
+use Rattle.layout.specs.declared.EdgeRecord.{EdgeRecord}
+use Rattle.files.specs.declared.Refusal.{Refusal}
+use Rattle.files.specs.Refusals.{notRefused}
 use Rattle.files.specs.Files.{graphOf, proposalOf}
+use Rattle.files.proofs.First.{none-refused}
+use Rattle.verdicts.specs.Verdicts.{judgedRefusal, timed, judgement}
 use Rattle.verdicts.specs.Theorems.{Sentenced, cycle-made, order-lost, late, accepted}
 use Rattle.verdicts.proofs.Meanings.{accepted-by-paths}
 use Rattle.resync.specs.declared.ProposalVerdict.{ProposalVerdict}
 use Rattle.resync.specs.Calls.{tasksOf}
 use Rattle.resync.specs.Theorems.{AcceptedFile}
-use Rattle.resync.specs.Verdict.{VerdictAnswer}
+use Rattle.resync.specs.Plan.{planRefusal, planAnswerOf}
+use Rattle.resync.specs.Verdict.{VerdictAnswer, resultLatency}
+use Rattle.resync.proofs.Planned.{plan-given, latency-told, edges-listed}
+use Rattle.claims.specs.Demand2.{planListed}
 use Rattle.claims.specs.Demand3.{Demand3, WellFormedFile, resultGraph, RunBreaks, Late}
 use Rattle.claims.proofs.Passed.{graph-passes, proposal-passes}
+use Rattle.claims.proofs.Demand2.{latency-told as verdict-latency, plan-not-refused}
 use Rattle.claims.proofs.Answer.{only-judged, all-passed, edges-formed, number-judged, sentenced}
 
 -- An accepted graph allows its own runs and has its own cycles; it never stalls, and its latency is within the bound.
@@ -135,6 +149,52 @@ module _ (s p : List ℕ) (r : ProposalVerdict) (answer : VerdictAnswer s p r) w
         go above (late because off runs misses) = off
         go above (accepted because off runs meets) = off
 
+-- ── The tool's own plan ──
+
+module _ (s : List ℕ) (list : List EdgeRecord) (passed : planRefusal s (length list) .number ≡ 0) where
+  abbrev g : Graph
+  g = graphOf s
+
+  graph-accepted : AcceptedFile s
+  graph-accepted = plan-given s (length list) .0 passed .0
+
+  own-stage : WellFormedEdges (count g) (planOf g .list) × AcceptedProposal g (planOf g .list)
+  own-stage = stage-accepted g (graph-accepted .1) (planOf g .steps) (planOf g .list) (plan-is g (graph-accepted .1) .stage)
+
+  written : planListed s list ≡ planOf g .list
+  written = edges-listed s list passed
+
+  -- nothing is refused of it
+  own-judged : (place : ℕ) → judgedRefusal g (planOf g .list) place ≡ notRefused
+  unfolding judgedRefusal
+  own-judged place = none-refused _ (accepted-by-paths g (planOf g .list) (graph-accepted .1) (own-stage .0) place .1 (own-stage .1))
+
+  own-judgement : (place : ℕ) → judgement g (planOf g .list) place ≡ record { refusal = notRefused; latency = planAnswerOf s (length list) .latency }
+  unfolding judgement timed counted planLatency
+  own-judgement place = λ i. record {
+    refusal = own-judged place i;
+    latency = (ap (λ (r : Refusal). counted (timed (r .number)) (latencyOf (result g (planOf g .list)))) (own-judged place) ∙ sym (latency-told s list passed)) i;
+  }
+
+  planned :
+      WellFormedEdges (count g) (planListed s list) × AcceptedProposal g (planListed s list) ×
+      ((place : ℕ) → judgement g (planListed s list) place ≡ record { refusal = notRefused; latency = planAnswerOf s (length list) .latency })
+  planned = (
+    subst (WellFormedEdges (count g)) (sym written) (own-stage .0),
+    subst (AcceptedProposal g) (sym written) (own-stage .1),
+    λ place. ap (λ (es : List Edge). judgement g es place) written ∙ own-judgement place,
+  )
+
+  -- and of a file that holds it
+  plan-accepted :
+      (p : List ℕ) (r : ProposalVerdict) → VerdictAnswer s p r → WellFormedFile s p → proposalOf p ≡ planListed s list →
+      (r .outcome .number ≡ 0) × (r .latency ≡ planAnswerOf s (length list) .latency)
+  unfolding planLatency resultLatency
+  plan-accepted p r answer formed same =
+      let is = same ∙ written in
+      let none = by-paths s p r answer graph-accepted formed .1 (subst (AcceptedProposal g) (sym is) (own-stage .1)) in
+      (none, verdict-latency s p r answer none ∙ (ap (λ (es : List Edge). latencyOf (result g es)) is ∙ sym (latency-told s list passed)))
+
 pub demand3-met : Demand3
 unfolding tasksOf
 demand3-met =
@@ -143,6 +203,11 @@ demand3-met =
       proposal-passes = proposal-passes;
       original = λ s graph. original-kept (graphOf s) (graph .1);
       anyone = λ s graph proposed formed by-paths. accepted-result (graphOf s) proposed (graph .1) formed by-paths;
+      stages = λ s graph steps list stage.
+          let h = stage-accepted (graphOf s) (graph .1) steps list stage in
+          (h .0, h .1, stage-resynchronizes (graphOf s) (graph .1) steps list stage);
+      planned = λ s list none. planned s list (plan-not-refused s (length list) none);
+      plan-accepted = λ s p r answer list none formed same. plan-accepted s list (plan-not-refused s (length list) none) p r answer formed same;
       kept = λ s p r answer none. let h = all-passed s p r answer none in (h .0, h .1, kept s p r answer (h .0) (h .1) none);
       by-paths = by-paths;
       thirteen = thirteen;

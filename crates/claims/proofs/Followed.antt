@@ -22,7 +22,8 @@ use Rattle.schedule.specs.Schedule.{scheduleRefusal, acceptanceRefusal}
 use Rattle.schedule.specs.Theorems.{Judged, zero-cycle, input-waits, not-joined, bound-below, passes}
 use Rattle.schedule.proofs.Judged.{judged-iff, no-place}
 use Rattle.resync.specs.Calls.{roomRefusal, turnsRefusal, tasksOf, delaysRefusal, timetableRefusal}
-use Rattle.claims.specs.Demand1.{Sequence, _at_when_, _when_, _then_, each, Outside, FillingBit, NotBelow, SameProcessor, SameAsEarlier, InputWaits, NotJoined, BoundBelow, graphFileChecks, nineToTwelve, graphChecks, proposalFileChecks, delaysChecks, timetableChecks}
+use Rattle.resync.specs.Plan.{planRefusal}
+use Rattle.claims.specs.Demand1.{Sequence, _at_when_, _when_, _then_, each, Outside, FillingBit, NotBelow, SameProcessor, SameAsEarlier, InputWaits, NotJoined, BoundBelow, graphFileChecks, nineToTwelve, graphChecks, proposalFileChecks, delaysChecks, timetableChecks, planChecks}
 use Rattle.claims.proofs.Sequences.{Follows, passing, stopping, one, check-then, and-then, only, each-follows, All, all-both, all-each, Earlier, low}
 use Rattle.claims.proofs.Conditions.{decides-or, differs, outside, not-below, end-outside, within-processor, filling-bit}
 
@@ -208,6 +209,10 @@ timetable-follows s turns room =
     (λ none.
     and-then (graphChecks s) (16 when room < taskCount s * turns) _ (graph-follows s)
     (λ none. only (room-follows room (λ i. task-count s i * turns))))
+
+pub plan-follows : (s : List ℕ) (room : ℕ) → Follows (planChecks s room) (planRefusal s room)
+unfolding planChecks planRefusal
+plan-follows s room = and-then (graphChecks s) (16 when room < edgeCount s) _ (graph-follows s) (λ none. only (room-follows room (sync-count s)))
 
 -- ── 1 to 8 of a proposal file ──
 

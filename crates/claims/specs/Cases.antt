@@ -1,14 +1,20 @@
--- Document 01, "Example desk": "Cases marked P are proved together as one listed set with one theorem over the list." The cases of the calls that there
--- are, over bytes and answers; proofs/Cases.antt proves that all of them hold.
+-- Document 01, "Example desk": "Cases marked P are proved together as one listed set with one theorem over the list." All of them,
+-- over bytes and answers; proofs/Cases.antt proves that they hold.
 use mathlib.Core.Path.{_≡_}
 use mathlib.Core.Logic.{_↔_}
 use mathlib.Core.List.{List, [], _∷_, _++_, List·Memᴰ}
 use Prim.Native.Nat.{ℕ, _≤_}
 use lib.IntN.{ℤ, pos, negsuc}
 use lib.ListN.{length, drop, getD}
+use Rattle.model.specs.Tasks.{Edge}
+use Rattle.model.specs.Example.{edge}
+use Rattle.layout.specs.declared.EdgeRecord.{EdgeRecord}
+use Rattle.files.specs.Files.{graphOf}
+use Rattle.stages.specs.Stages.{writtenInto}
 use Rattle.resync.specs.declared.Outcome.{Outcome}
 use Rattle.resync.specs.declared.ProposalVerdict.{ProposalVerdict}
 use Rattle.resync.specs.Calls.{outcome, delaysRefusal, delaysAfter, redundantOf, timetableRefusal, timetableAfter}
+use Rattle.resync.specs.Plan.{planAnswerOf, planAfter}
 use Rattle.resync.specs.Verdict.{VerdictAnswer}
 
 -- ── Cases ──
@@ -21,6 +27,8 @@ pub data Case : Type 0 where
   first-word : (graph : List ℕ) (word : ℕ) → Case
   -- starts of a graph in so many turns
   starts : (graph : List ℕ) (turns : ℕ) (rows : List ℕ) → Case
+  -- the plan of a graph: its edges, steps and latency
+  plan : (graph : List ℕ) (es : List Edge) (steps latency : ℕ) → Case
   -- the verdict on a proposal beside a graph
   verdict : (graph proposal : List ℕ) (answer : ProposalVerdict) → Case
   -- a verdict of 13, with one of several places
@@ -49,6 +57,10 @@ Holds (first-word graph word) = (redundantOf graph .outcome ≡ success) × (get
 Holds (starts graph turns rows) =
     (lent : List ℕ) → length rows ≤ length lent →
     (outcome (timetableRefusal graph turns (length lent)) ≡ success) × (timetableAfter graph turns lent ≡ rows ++ drop (length rows) lent)
+Holds (plan graph es steps latency) =
+    (lent : List EdgeRecord) → length (graphOf graph .syncs) ≤ length lent →
+    (planAnswerOf graph (length lent) ≡ record { outcome = success; length = length es; steps = steps; latency = latency }) ×
+    (planAfter graph lent ≡ writtenInto lent es)
 Holds (verdict graph proposal answer) = (r : ProposalVerdict) → VerdictAnswer graph proposal r ↔ (r ≡ answer)
 Holds (on-cycle graph proposal places) =
     (r : ProposalVerdict) → VerdictAnswer graph proposal r ↔ ((place : ℕ) × List·Memᴰ place places × (r ≡ refused 13 place 0 (pos 0)))
@@ -121,6 +133,10 @@ cases =
     ∷ verdict desk delayed (refused 14 1 0 (pos 0))
     -- "P 0→2, 1→3, and 3→0 with delay 1: 13, place 1, 2 or 3."
     ∷ on-cycle desk looped (1 ∷ 2 ∷ 3 ∷ [])
+    -- "P plan: 1→2, one step, latency 10."
+    ∷ plan desk (edge 1 2 0 ∷ []) 1 10
+    -- "P at bound 9: 0→2, 1→3, no step." (Latency 9 is the graph's own, as "graph 4 3 9" says.)
+    ∷ plan (deskFile 9) (edge 0 2 0 ∷ edge 1 3 0 ∷ []) 0 9
     ∷ []
 
 -- Every listed case holds.

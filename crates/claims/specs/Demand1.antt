@@ -12,6 +12,7 @@ use Prim.Native.Nat.{ℕ, zero, suc, _*_, _≤_, _<_}
 use lib.IntN.{pos, negsuc, _-ℤ_}
 use lib.ListN.{length}
 use Rattle.bits.specs.Bits.{bitAt}
+use Rattle.layout.specs.declared.EdgeRecord.{EdgeRecord}
 use Rattle.layout.specs.Layout.{graphHeader, proposalHeader, bytesFor}
 use Rattle.model.specs.Tasks.{Task, Edge, _∈_, processorOf}
 use Rattle.model.specs.Graph.{Graph, edges, timeOf}
@@ -24,6 +25,7 @@ use Rattle.verdicts.specs.Theorems.{FirstLost}
 use Rattle.resync.specs.declared.Outcome.{Outcome}
 use Rattle.resync.specs.declared.ProposalVerdict.{ProposalVerdict}
 use Rattle.resync.specs.Calls.{outcome, figuresOf, redundantOf, noMarks, delaysRefusal, delaysAfter, timetableRefusal, timetableAfter}
+use Rattle.resync.specs.Plan.{planAnswerOf, planAfter}
 use Rattle.resync.specs.Verdict.{VerdictAnswer}
 
 -- ── Checks, and sequences of them ──
@@ -177,6 +179,10 @@ delaysChecks s room = graphChecks s then 16 when room < taskCount s * taskCount 
 unfoldable pub timetableChecks : List ℕ → ℕ → ℕ → Sequence
 timetableChecks s turns room = 17 when Outside 1 64 turns then graphChecks s then 16 when room < taskCount s * turns
 
+-- The plan: "16: a lent list too short ([..] or edges)", for a list of so many records
+unfoldable pub planChecks : List ℕ → ℕ → Sequence
+planChecks s room = graphChecks s then 16 when room < edgeCount s
+
 -- The verdict: "then the proposal's header [..] then 8, 13, 14, 15"
 unfoldable pub verdictChecks : List ℕ → List ℕ → Sequence
 verdictChecks s p = graphChecks s then proposalFileChecks (taskCount s) p then proposedChecks (graphOf s) (proposalOf p)
@@ -202,8 +208,9 @@ pub record LateTold (result : Graph) (o : Outcome) : Type 0 where
   pub negative : (k : ℕ) × (o .margin ≡ negsuc k)
 
 -- For all bytes s of a graph file, all bytes p of a proposal file, all numbers and all lent lists. By their contracts the calls answer `graphReading s`,
--- `proposalReading n p`, `figuresOf s`, `redundantOf s`, `outcome (delaysRefusal s room)` and `outcome (timetableRefusal s turns room)`, where room is the
--- length of the lent list, and leave `delaysAfter` and `timetableAfter` in it; the verdict call answers an r with `VerdictAnswer s p r`.
+-- `proposalReading n p`, `figuresOf s`, `redundantOf s`, `outcome (delaysRefusal s room)`, `outcome (timetableRefusal s turns room)` and `planAnswerOf s room`,
+-- where room is the length of the lent list, and leave `delaysAfter`, `timetableAfter` and `planAfter` in it; the verdict call answers an r with
+-- `VerdictAnswer s p r`.
 pub record Demand1 : Type 0 where
   -- the readings: 1 to 8 alone, of a proposal beside any number n of tasks; they tell number and place, and `outcome` puts 0 for latency and margin
   pub read-graph : (s : List ℕ) → Obeys (graphFileChecks s) (outcome (graphReading s .refusal))
@@ -221,6 +228,12 @@ pub record Demand1 : Type 0 where
   pub timetable : (s : List ℕ) (turns room : ℕ) → Obeys (timetableChecks s turns room) (outcome (timetableRefusal s turns room))
   pub timetable-kept :
       (s : List ℕ) (turns : ℕ) (starts : List ℕ) → timetableRefusal s turns (length starts) .number ≢ 0 → timetableAfter s turns starts ≡ starts
+  -- plan: a refused one has no length, no steps and no latency, and changes no record
+  pub plan : (s : List ℕ) (room : ℕ) → Obeys (planChecks s room) (planAnswerOf s room .outcome)
+  pub plan-refused :
+      (s : List ℕ) (room : ℕ) → planAnswerOf s room .outcome .number ≢ 0 →
+      (planAnswerOf s room .length ≡ 0) × (planAnswerOf s room .steps ≡ 0) × (planAnswerOf s room .latency ≡ 0)
+  pub plan-kept : (s : List ℕ) (list : List EdgeRecord) → planAnswerOf s (length list) .outcome .number ≢ 0 → planAfter s list ≡ list
   -- verdict: the contract allows some answer, so what is said of all answers is said of something
   pub answered : (s p : List ℕ) → (r : ProposalVerdict) × VerdictAnswer s p r
   -- of every answer that it allows, whatever place is given with 13

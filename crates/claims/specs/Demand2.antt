@@ -1,25 +1,32 @@
 -- Demand 2, for all bytes, numbers of turns and lists handed to the calls, and of their answers.
 --
 -- "Least delays, redundant waits, latency, earliest timetable and the tool's own plan are exactly those of the memorandum as document 01 reads it: a
--- wait is marked redundant if it is so by that definition, and otherwise not." No call gives a plan yet; nothing is said of it here.
+-- wait is marked redundant if it is so by that definition, and otherwise not."
 use mathlib.Core.Path.{_≡_}
 use mathlib.Core.Logic.{_↔_}
+use mathlib.Core.Bool.{not}
 use mathlib.Core.List.{List, List·Memᴰ}
 use mathlib.Core.Option.{none, some}
 use Prim.Native.Nat.{ℕ, _+_, _-_, _*_, _/_, _%_, _^_, _≤_, _<_}
 use lib.IntN.{pos, negsuc, _-ℤ_}
 use lib.ListN.{length, getD, take}
-use Rattle.model.specs.Lists.{sumBelow}
+use Rattle.model.specs.Lists.{keep, sumBelow}
+use Rattle.model.specs.Tasks.{Edge}
 use Rattle.model.specs.Graph.{edges, timeOf}
 use Rattle.model.specs.Paths.{Least, Redundant, Latency}
 use Rattle.model.specs.Runs.{Times, ends, Earliest, estimates}
+use Rattle.model.specs.Compute.{isFeedback}
 use Rattle.model.specs.Proposals.{result}
+use Rattle.model.specs.Plan.{Plan}
+use Rattle.layout.specs.declared.EdgeRecord.{EdgeRecord}
 use Rattle.files.specs.Files.{graphOf, proposalOf}
+use Rattle.stages.specs.Stages.{listed}
 use Rattle.marks.specs.declared.Marks.{Marks}
 use Rattle.marks.specs.Marks.{markAt, placesOf}
 use Rattle.resync.specs.declared.ProposalVerdict.{ProposalVerdict}
 use Rattle.resync.specs.Calls.{outcome, tasksOf, figuresOf, delaysRefusal, delaysAfter, redundantOf, timetableRefusal, timetableAfter}
 use Rattle.resync.specs.Theorems.{AcceptedFile}
+use Rattle.resync.specs.Plan.{planAnswerOf, planAfter}
 use Rattle.resync.specs.Verdict.{VerdictAnswer}
 
 -- "row by row": the number of tasks a and b in a delay table of n tasks
@@ -34,7 +41,11 @@ markBit marks i = getD (marks .words) (i / 64) 0 / 2 ^ (63 - i % 64) % 2
 abbrev pub startIn : ℕ → List ℕ → Times
 startIn n starts v k = getD starts ((k - 1) * n + v) 0
 
--- s and p are the bytes of a graph and of a proposal, `table` and `starts` the lent lists as they are handed over, r is an answer to the proposal.
+-- the edges that the plan call leaves at the front of a lent list
+abbrev pub planListed : List ℕ → List EdgeRecord → List Edge
+planListed s list = listed (planAnswerOf s (length list) .length) (planAfter s list)
+
+-- s and p are the bytes of a graph and of a proposal, `table`, `starts` and `list` the lent lists as they are handed over, r is an answer to the proposal.
 -- What the calls answer and leave in the lists is named as in their contracts: `figuresOf s` is the answer of `figures`, `delaysAfter s table` what
 -- `least_delays` leaves in `table`.
 pub record Demand2 : Type 0 where
@@ -110,6 +121,30 @@ pub record Demand2 : Type 0 where
       (s : List ℕ) (turns : ℕ) (starts : List ℕ) →
       (length (timetableAfter s turns starts) ≡ length starts) ×
       ((i : ℕ) → tasksOf s * turns ≤ i → getD (timetableAfter s turns starts) i 0 ≡ getD starts i 0)
+  -- ── Plan ──
+  -- it is given exactly for an accepted graph and a list of as many records as the file has edges, or more
+  pub plan-given :
+      (s : List ℕ) (room : ℕ) → (planAnswerOf s room .outcome .number ≡ 0) ↔ (AcceptedFile s × (length (graphOf s .syncs) ≤ room))
+  -- "The plan follows Figure 10": list and steps are the plan's exactly if they are those that the call writes and tells. What the plan is, from candidates
+  -- to steps in 01's words, is the model's `Plan`
+  pub plan :
+      (s : List ℕ) (list : List EdgeRecord) → planAnswerOf s (length list) .outcome .number ≡ 0 → (steps : ℕ) (es : List Edge) →
+      Plan (graphOf s) steps es ↔ ((planAnswerOf s (length list) .steps ≡ steps) × (planListed s list ≡ es))
+  -- "the answer gives its length, its steps and its latency": the latency of the graph that it leads to
+  pub plan-length :
+      (s : List ℕ) (list : List EdgeRecord) → length (planListed s list) ≡ planAnswerOf s (length list) .length
+  pub plan-latency :
+      (s : List ℕ) (list : List EdgeRecord) → planAnswerOf s (length list) .outcome .number ≡ 0 →
+      Latency (edges (result (graphOf s) (planListed s list))) (timeOf (graphOf s)) (graphOf s .output) (planAnswerOf s (length list) .latency)
+  -- never more edges than the graph has feedforward ones, and each step lowers their number; so "as many records as edges are needed at most"
+  pub plan-few :
+      (s : List ℕ) (room : ℕ) →
+      planAnswerOf s room .length + planAnswerOf s room .steps ≤ length (keep (λ e. not (isFeedback (graphOf s) e)) (graphOf s .syncs))
+  -- "elements past the written part hold what they held", and the list is as long as it was
+  pub plan-past :
+      (s : List ℕ) (list : List EdgeRecord) (missing : EdgeRecord) →
+      (length (planAfter s list) ≡ length list) ×
+      ((i : ℕ) → planAnswerOf s (length list) .length ≤ i → getD (planAfter s list) i missing ≡ getD list i missing)
   -- ── Latency of the result of a proposal ──
   -- "Verdict: latency of the result": of a proposal that is accepted (by demand 3, exactly those that may be)
   pub result-latency :

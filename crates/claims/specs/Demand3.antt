@@ -9,18 +9,25 @@ use mathlib.Core.Path.{_≡_}
 use mathlib.Core.Logic.{_↔_}
 use mathlib.Core.List.{List}
 use Prim.Native.Nat.{ℕ, _≤_}
+use lib.ListN.{length}
 use Rattle.model.specs.Tasks.{Edge, _∈_}
 use Rattle.model.specs.Graph.{Graph, WellFormedEdges, edges}
 use Rattle.model.specs.Paths.{OnCycle, NoneOnCycle}
 use Rattle.model.specs.Runs.{SomeRunBreaks, MissesBound}
 use Rattle.model.specs.Proposals.{result, AcceptedProposal}
 use Rattle.model.specs.Theorems.{Resynchronizes}
+use Rattle.model.specs.Plan.{Stage}
+use Rattle.layout.specs.declared.EdgeRecord.{EdgeRecord}
 use Rattle.files.specs.Files.{taskCount, graphOf, proposalOf, proposalRefusal}
+use Rattle.files.specs.Refusals.{notRefused}
+use Rattle.verdicts.specs.Verdicts.{judgement}
 use Rattle.resync.specs.declared.ProposalVerdict.{ProposalVerdict}
 use Rattle.resync.specs.Calls.{tasksOf}
 use Rattle.resync.specs.Theorems.{AcceptedFile}
+use Rattle.resync.specs.Plan.{planAnswerOf}
 use Rattle.resync.specs.Verdict.{VerdictAnswer}
 use Rattle.claims.specs.Demand1.{Says, graphChecks, proposalFileChecks}
+use Rattle.claims.specs.Demand2.{planListed}
 
 -- "A proposal that passes these up to 8 is well-formed", beside the graph of a file.
 abbrev pub WellFormedFile : List ℕ → List ℕ → Type 0
@@ -54,6 +61,10 @@ pub record Demand3 : Type 0 where
   pub anyone :
       (s : List ℕ) → AcceptedFile s → (proposed : List Edge) → WellFormedEdges (tasksOf s) proposed → AcceptedProposal (graphOf s) proposed →
       Resynchronizes (graphOf s) (result (graphOf s) proposed)
+  -- the same of every stage of the tool's own plan, of which the finished plan is the last
+  pub stages :
+      (s : List ℕ) → AcceptedFile s → (steps : ℕ) (list : List Edge) → Stage (graphOf s) steps list →
+      WellFormedEdges (tasksOf s) list × AcceptedProposal (graphOf s) list × Resynchronizes (graphOf s) (result (graphOf s) list)
   -- the same of every proposal that the call accepts
   pub kept :
       (s p : List ℕ) (r : ProposalVerdict) → VerdictAnswer s p r → r .outcome .number ≡ 0 →
@@ -88,3 +99,14 @@ pub record Demand3 : Type 0 where
   pub only-then : (s p : List ℕ) (r : ProposalVerdict) → VerdictAnswer s p r → 13 ≤ r .outcome .number → AcceptedFile s × WellFormedFile s p
   pub only-off-cycles :
       (s p : List ℕ) (r : ProposalVerdict) → VerdictAnswer s p r → 14 ≤ r .outcome .number → NoneOnCycle (edges (resultGraph s p)) (proposalOf p)
+  -- ── The tool's own plan ──
+  -- the list that the plan call writes is well-formed and accepted as a proposal, and judged so with the latency that the plan call tells (no place comes
+  -- with 13, so it does not matter which would)
+  pub planned :
+      (s : List ℕ) (list : List EdgeRecord) → planAnswerOf s (length list) .outcome .number ≡ 0 →
+      WellFormedEdges (tasksOf s) (planListed s list) × AcceptedProposal (graphOf s) (planListed s list) ×
+      ((place : ℕ) → judgement (graphOf s) (planListed s list) place ≡ record { refusal = notRefused; latency = planAnswerOf s (length list) .latency })
+  -- so every well-formed file that holds the list is accepted by the verdict call, with that latency
+  pub plan-accepted :
+      (s p : List ℕ) (r : ProposalVerdict) → VerdictAnswer s p r → (list : List EdgeRecord) → planAnswerOf s (length list) .outcome .number ≡ 0 →
+      WellFormedFile s p → proposalOf p ≡ planListed s list → (r .outcome .number ≡ 0) × (r .latency ≡ planAnswerOf s (length list) .latency)

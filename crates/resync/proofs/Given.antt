@@ -98,11 +98,11 @@ module _ (needed room : ℕ) where
       omega arith
 
   module _ (s : List ℕ) where
-    accepted-given : (first (acceptanceRefusal s ∷ roomRefusal needed room ∷ []) .number ≡ 0) ↔ (AcceptedFile s × (needed ≤ room))
+    pub accepted-given : (first (acceptanceRefusal s ∷ roomRefusal needed room ∷ []) .number ≡ 0) ↔ (AcceptedFile s × (needed ≤ room))
     accepted-given =
         Iff·trans (first-later (acceptanceRefusal s) (roomRefusal needed room ∷ []) 0 (λ is. refl)) (Iff·and (accepted-iff-passed s) room-given)
 
-    accepted-short : (first (acceptanceRefusal s ∷ roomRefusal needed room ∷ []) .number ≡ 16) ↔ (AcceptedFile s × (room < needed))
+    pub accepted-short : (first (acceptanceRefusal s ∷ roomRefusal needed room ∷ []) .number ≡ 16) ↔ (AcceptedFile s × (room < needed))
     accepted-short =
         Iff·trans (first-later (acceptanceRefusal s) (roomRefusal needed room ∷ []) 16 (λ is. let low = up-to-12 s in absurd (omega arith)))
         (Iff·and (accepted-iff-passed s) room-short)

@@ -24,42 +24,42 @@ use Rattle.resync.specs.Calls.{tasksOf, tableOf, delaysRefusal, delaysAf
 use Rattle.resync.specs.Theorems.{DelaysKept, TimetableKept, DelaysPast, TimetablePast}
 use Rattle.resync.proofs.Given.{delays-given, timetable-given}
 
--- a list lent to a call that answers n, and writes k numbers if n is 0
-module _ (n k : ℕ) (written lent : List ℕ) (long : length written ≡ k) where
+-- a list lent to a call that answers n, and writes k elements if n is 0
+module _ {A : Type 0} (missing : A) (n k : ℕ) (written lent : List A) (long : length written ≡ k) where
   as-long : k ≤ length lent → length (written ++ drop k lent) ≡ length lent
   as-long room =
       let both = length-append written (drop k lent) in
       let rest = length-drop k lent in
       omega arith
 
-  past-it : (i : ℕ) → k ≤ i → getD (written ++ drop k lent) i 0 ≡ getD lent i 0
+  past-it : (i : ℕ) → k ≤ i → getD (written ++ drop k lent) i missing ≡ getD lent i missing
   past-it i past =
       let at : i ≡ length written + (i - k) = omega arith in
       let back : k + (i - k) ≡ i = omega arith in
-      ap (λ (j : ℕ). getD (written ++ drop k lent) j 0) at ∙
-      (getD-append-add written (drop k lent) (i - k) 0 ∙ (getD-drop k lent (i - k) 0 ∙ ap (λ (j : ℕ). getD lent j 0) back))
+      ap (λ (j : ℕ). getD (written ++ drop k lent) j missing) at ∙
+      (getD-append-add written (drop k lent) (i - k) missing ∙ (getD-drop k lent (i - k) missing ∙ ap (λ (j : ℕ). getD lent j missing) back))
 
-  kept-past :
+  pub kept-past :
       (n ≡ 0 → k ≤ length lent) →
       (length (ifPassed n (written ++ drop k lent) lent) ≡ length lent) ×
-      ((i : ℕ) → k ≤ i → getD (ifPassed n (written ++ drop k lent) lent) i 0 ≡ getD lent i 0)
+      ((i : ℕ) → k ≤ i → getD (ifPassed n (written ++ drop k lent) lent) i missing ≡ getD lent i missing)
   kept-past room = go (zero-or-not n)
     where
       go : (n ≡ 0) ⊎ (n ≢ 0) →
           (length (ifPassed n (written ++ drop k lent) lent) ≡ length lent) ×
-          ((i : ℕ) → k ≤ i → getD (ifPassed n (written ++ drop k lent) lent) i 0 ≡ getD lent i 0)
+          ((i : ℕ) → k ≤ i → getD (ifPassed n (written ++ drop k lent) lent) i missing ≡ getD lent i missing)
       go (inl none) =
           let is = if-passed n (written ++ drop k lent) lent none in
-          (ap length is ∙ as-long (room none), λ i past. ap (λ (xs : List ℕ). getD xs i 0) is ∙ past-it i past)
+          (ap length is ∙ as-long (room none), λ i past. ap (λ (xs : List A). getD xs i missing) is ∙ past-it i past)
       go (inr some) =
           let is = if-refused n (written ++ drop k lent) lent some in
-          (ap length is, λ i past. ap (λ (xs : List ℕ). getD xs i 0) is)
+          (ap length is, λ i past. ap (λ (xs : List A). getD xs i missing) is)
 
-  written-at : n ≡ 0 → (i : ℕ) → i < k → getD (ifPassed n (written ++ drop k lent) lent) i 0 ≡ getD written i 0
+  written-at : n ≡ 0 → (i : ℕ) → i < k → getD (ifPassed n (written ++ drop k lent) lent) i missing ≡ getD written i missing
   written-at none i before =
       let inside : i < length written = omega arith in
-      ap (λ (xs : List ℕ). getD xs i 0) (if-passed n (written ++ drop k lent) lent none) ∙
-      List·getD-append written (drop k lent) 0 i inside
+      ap (λ (xs : List A). getD xs i missing) (if-passed n (written ++ drop k lent) lent none) ∙
+      List·getD-append written (drop k lent) missing i inside
 
 -- ── What the two calls write ──
 
@@ -89,13 +89,13 @@ timetable-kept s turns starts some = if-refused (timetableRefusal s turns (lengt
 pub delays-past : DelaysPast
 unfolding delaysAfter
 delays-past s table =
-    kept-past (delaysRefusal s (length table) .number) (tasksOf s * tasksOf s) (tableOf s) table (table-long s)
+    kept-past 0 (delaysRefusal s (length table) .number) (tasksOf s * tasksOf s) (tableOf s) table (table-long s)
     (λ none. (delays-given s (length table)) .0 none .1)
 
 pub timetable-past : TimetablePast
 unfolding timetableAfter
 timetable-past s turns starts =
-    kept-past (timetableRefusal s turns (length starts) .number) (tasksOf s * turns) (startsOf s turns) starts (starts-length s turns)
+    kept-past 0 (timetableRefusal s turns (length starts) .number) (tasksOf s * turns) (startsOf s turns) starts (starts-length s turns)
     (λ none. (timetable-given s turns (length starts)) .0 none .3)
 
 -- ── Where each element of what they write stands ──
@@ -108,7 +108,7 @@ unfolding delaysAfter tableOf
 delay-at s table none a b l k =
     let n = tasksOf s in
     let es = edges (graphOf s) in
-    written-at (delaysRefusal s (length table) .number) (n * n) (tableOf s) table (table-long s) none (a * n + b) (place-within n n a b l k) ∙
+    written-at 0 (delaysRefusal s (length table) .number) (n * n) (tableOf s) table (table-long s) none (a * n + b) (place-within n n a b l k) ∙
     table-at n es a b l k
 
 -- the element of task v in turn k, counted here from 0
@@ -121,6 +121,6 @@ starts-at s turns starts none v k l h =
     let es = edges (graphOf s) in
     let time = timeOf (graphOf s) in
     let inside : k * n + v < n * turns = subst (λ (m : ℕ). k * n + v < m) (mul-comm turns n) (place-within n turns k v h l) in
-    written-at (timetableRefusal s turns (length starts) .number) (n * turns) (startsOf s turns) starts (starts-length s turns) none (k * n + v) inside ∙
+    written-at 0 (timetableRefusal s turns (length starts) .number) (n * turns) (startsOf s turns) starts (starts-length s turns) none (k * n + v) inside ∙
     (rows-at n (λ j. turnRow n es time (suc j)) (λ j. turn-length s (suc j)) turns k v h l ∙
     getD-tabulate n (λ x. earliest n es (estimates time) x (suc k)) 0 v l)

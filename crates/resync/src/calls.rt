@@ -52,7 +52,7 @@ pub fn told(refusal: Refusal) -> Outcome
 }
 
 // 16, after the checks before it.
-fn with_room(earlier: Refusal, needed: usize, room: usize) -> Refusal
+pub fn with_room(earlier: Refusal, needed: usize, room: usize) -> Refusal
     ensures { λ r. ⌜ r ≡ first (earlier ∷ roomRefusal needed room ∷ []) ⌝ }
 {
     if earlier.number != 0 {

@@ -1,5 +1,6 @@
 // The calls on a graph, and the verdict on a proposal. Each takes files' bytes, whatever they are.
 mod calls;
+mod planning;
 mod proposals;
 
 pub use calls::figures;
@@ -8,6 +9,7 @@ pub use calls::places;
 pub use calls::redundant;
 pub use calls::timetable;
 use marks::Marks;
+pub use planning::plan;
 pub use proposals::verdict;
 
 // What a call says: number 0 if it succeeds, else document 01's number of the refusal, and place, latency and margin where 01
@@ -44,4 +46,13 @@ pub struct ProposalVerdict {
     pub outcome: Outcome,
     pub latency: u32,
     pub margin: i32,
+}
+
+// The plan of a graph: how many edges it lists, how many steps it took, and the latency of the graph it leads to; 0 if it is refused.
+#[repr(C)]
+pub struct PlanAnswer {
+    pub outcome: Outcome,
+    pub length: u32,
+    pub steps: u32,
+    pub latency: u32,
 }

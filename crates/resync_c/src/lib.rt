@@ -5,12 +5,15 @@ ghost use Rattle.readings.specs.Working.{graphReading, proposalReading};
 ghost use Rattle.marks.specs.Marks.{markAt, placesOf};
 ghost use Rattle.resync.specs.Calls.{outcome, figuresOf, delaysRefusal, delaysAfter, redundantOf, timetableRefusal, timetableAfter};
 ghost use Rattle.resync.specs.Verdict.{VerdictAnswer};
+ghost use Rattle.resync.specs.Plan.{planAnswerOf, planAfter};
+use layout::EdgeRecord;
 use marks::Marks;
 use marks::Places;
 use readings::GraphReading;
 use readings::ProposalReading;
 use resync::GraphFigures;
 use resync::Outcome;
+use resync::PlanAnswer;
 use resync::ProposalVerdict;
 use resync::RedundantSet;
 
@@ -78,4 +81,13 @@ pub extern "C" fn resync_verdict(graph: &[u8], proposal: &[u8]) -> ProposalVerdi
     ensures { λ r. ⌜ VerdictAnswer (now (graph .entry)) (now (proposal .entry)) r ⌝ }
 {
     resync::verdict(graph, proposal)
+}
+
+// The plan of a graph, its edges at the front of the list, with its length, steps and latency.
+#[no_mangle]
+pub extern "C" fn resync_plan(graph: &[u8], edges: &mut [EdgeRecord]) -> PlanAnswer
+    ensures answer { λ r. ⌜ r ≡ planAnswerOf (now (graph .entry)) (length (now (edges .entry))) ⌝ }
+    ensures edges { λ _. ⌜ now (edges .exit) ≡ planAfter (now (graph .entry)) (now (edges .entry)) ⌝ }
+{
+    resync::plan(graph, edges)
 }
