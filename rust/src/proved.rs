@@ -102,6 +102,26 @@ pub struct ProposalVerdict {
     pub margin: i32,
 }
 
+/// An edge as the plan's list has it.
+#[repr(C)]
+#[derive(Clone, Copy, Debug, PartialEq, Eq)]
+pub struct EdgeRecord {
+    pub source: u8,
+    pub sink: u8,
+    pub delay: u8,
+}
+
+/// The plan's figures. If it is refused, everything but the outcome is 0.
+#[repr(C)]
+#[derive(Clone, Copy, Debug, PartialEq, Eq)]
+pub struct PlanAnswer {
+    pub outcome: Outcome,
+    /// How many records were written.
+    pub length: u32,
+    pub steps: u32,
+    pub latency: u32,
+}
+
 // The records have no gaps: as many bytes as their fields, but for the set's last four, which align its words.
 const _: () = assert!(size_of::<GraphReading>() == 7 * 4 + 64 + 2 * 64 + 3 * 320);
 const _: () = assert!(size_of::<ProposalReading>() == 3 * 4 + 3 * 256);
@@ -111,6 +131,8 @@ const _: () = assert!(size_of::<Marks>() == 4 * 8);
 const _: () = assert!(size_of::<RedundantSet>() == 4 * 4 + 4 * 8 + 4 + 4);
 const _: () = assert!(size_of::<Places>() == 4 + 256 * 4);
 const _: () = assert!(size_of::<ProposalVerdict>() == 4 * 4 + 2 * 4);
+const _: () = assert!(size_of::<EdgeRecord>() == 3);
+const _: () = assert!(size_of::<PlanAnswer>() == 4 * 4 + 3 * 4);
 
 extern "C" {
     fn resync_read_graph(file: *const u8, length: usize) -> GraphReading;
@@ -133,6 +155,12 @@ extern "C" {
         proposal: *const u8,
         proposal_length: usize,
     ) -> ProposalVerdict;
+    fn resync_plan(
+        file: *const u8,
+        length: usize,
+        edges: *mut EdgeRecord,
+        room: usize,
+    ) -> PlanAnswer;
 }
 
 /// Reads a graph file and judges it as far as refusal 8.
@@ -200,4 +228,12 @@ pub fn verdict(graph: &[u8], proposal: &[u8]) -> ProposalVerdict {
             proposal.len(),
         )
     }
+}
+
+/// Writes the plan of a graph file to the front of the list: the feedforward edges left, file sequence first, then added ones;
+/// nothing past them, and nothing at all if refused.
+pub fn plan(file: &[u8], edges: &mut [EdgeRecord]) -> PlanAnswer {
+    // SAFETY: pointers and lengths are those of two slices, of which the second is lent for writing and so apart from
+    // the first; the call keeps none.
+    unsafe { resync_plan(file.as_ptr(), file.len(), edges.as_mut_ptr(), edges.len()) }
 }

@@ -9,6 +9,7 @@ use generator::damage::{BYTE_DAMAGES, GRAPH_DAMAGES};
 use generator::desk::{edge, flipped, shown, small, DESK};
 use generator::desks::FAULTS;
 use generator::faults::{every_set_of_faults, Fault};
+use generator::lists::{lend, lent, BESIDE};
 use generator::Generator;
 use resync::checker::{self, write_graph, Edge, Graph, GraphFields, Task};
 use resync::proved::{self, GraphFigures, Marks, Outcome, Places, RedundantSet};
@@ -194,27 +195,6 @@ impl Case<'_> {
             );
         }
     }
-}
-
-/// How many elements are watched on either side of a lent list.
-const BESIDE: usize = 16;
-
-/// Lends a call so many elements in the midst of others, and returns its outcome and all of them.
-fn lend<T>(
-    room: usize,
-    pattern: impl Fn(usize) -> T,
-    call: impl FnOnce(&mut [T]) -> Outcome,
-) -> (Outcome, Vec<T>) {
-    let mut memory: Vec<T> = (0..BESIDE + room + BESIDE).map(pattern).collect();
-    let outcome = call(&mut memory[BESIDE..BESIDE + room]);
-    (outcome, memory)
-}
-
-/// What [`lend`] must return if just this was written to the front of the list.
-fn lent<T: Copy>(room: usize, pattern: impl Fn(usize) -> T, written: &[T]) -> Vec<T> {
-    let mut memory: Vec<T> = (0..BESIDE + room + BESIDE).map(pattern).collect();
-    memory[BESIDE..BESIDE + written.len()].copy_from_slice(written);
-    memory
 }
 
 fn expected_places(places: &[usize]) -> Places {

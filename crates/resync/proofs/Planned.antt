@@ -3,7 +3,7 @@ use mathlib.Core.Path.{_≡_, refl, sym, ap, _∙_, subst}
 use mathlib.Core.Logic.{_⊎_, inl, inr, _≢_}
 use mathlib.Core.Bool.{not}
 use mathlib.Core.List.{List, [], _∷_, _++_}
-use Prim.Native.Nat.{ℕ, suc, _+_, _≤_}
+use Prim.Native.Nat.{ℕ, _≤_}
 use native.Mathlib.Omega.{arith}
 use lib.ListN.{length, getD, drop}
 use Rattle.model.specs.Tasks.{Edge}
@@ -19,6 +19,7 @@ use Rattle.files.proofs.First.{none-refused, zero-or-not, if-passed, if-refused
 use Rattle.layout.specs.declared.EdgeRecord.{EdgeRecord}
 use Rattle.records.specs.Columns.{edgeOf}
 use Rattle.stages.specs.Stages.{recordOf, recordsOf, writtenInto, listed}
+use Rattle.stages.proofs.Listed.{records-length}
 use Rattle.resync.specs.Plan.{planRefusal, planAnswerOf, planAfter}
 use Rattle.resync.specs.Theorems.{PlanGiven, PlanShort, PlanRefused, PlanKept, PlanPast, PlanMeans}
 use Rattle.resync.proofs.Given.{accepted-given, accepted-short}
@@ -58,11 +59,6 @@ plan-few g accepted =
     let together = stage-shrinks g (planOf g .steps) (planOf g .list) (plan-is g accepted .stage) in
     let fewer = length-keep (λ e. not (isFeedback g e)) (g .syncs) in
     omega (arith, together, fewer)
-
-records-length : (es : List Edge) → length (recordsOf es) ≡ length es
-unfolding recordsOf
-records-length [] = refl
-records-length (e ∷ es) = ap suc (records-length es)
 
 -- what is written reads as it was
 listed-written : (es : List Edge) (list : List EdgeRecord) → listed (length es) (recordsOf es ++ list) ≡ es

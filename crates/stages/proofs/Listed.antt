@@ -14,7 +14,7 @@ use Rattle.records.proofs.Fill.{length-tabulate}
 use Rattle.results.proofs.Fronts.{tabulate-more}
 use Rattle.stages.specs.Stages.{recordOf, recordsOf, writtenInto}
 
-records-length : (es : List Edge) → length (recordsOf es) ≡ length es
+pub records-length : (es : List Edge) → length (recordsOf es) ≡ length es
 unfolding recordsOf
 records-length [] = refl
 records-length (e ∷ es) = ap suc (records-length es)
@@ -28,7 +28,8 @@ tabulate-same : {A : Type 0} (f h : ℕ → A) (n : ℕ) → ((i : ℕ) → i < 
 unfolding tabulate
 tabulate-same f h zero same = refl
 tabulate-same {A} f h (suc n) same =
-    ap (λ (xs : List A). xs ++ (f n ∷ [])) (tabulate-same f h n (λ i l. same i (omega arith))) ∙ ap (λ (x : A). tabulate n h ++ (x ∷ [])) (same n (omega arith))
+    ap (λ (xs : List A). xs ++ (f n ∷ [])) (tabulate-same f h n (λ i l. same i (omega arith))) ∙
+    ap (λ (x : A). tabulate n h ++ (x ∷ [])) (same n (omega arith))
 
 module _ (source sink delay : List ℕ) where
   -- record j of the stage
@@ -44,7 +45,8 @@ module _ (source sink delay : List ℕ) where
   front-more : (j : ℕ) → front j ++ (stored j ∷ []) ≡ front (j + 1)
   unfolding recordOf heldEdge
   front-more j =
-      sym (records-more (tabulate j (heldEdge source sink delay)) (heldEdge source sink delay j)) ∙ ap recordsOf (sym (tabulate-more (heldEdge source sink delay) j))
+      sym (records-more (tabulate j (heldEdge source sink delay)) (heldEdge source sink delay j)) ∙
+      ap recordsOf (sym (tabulate-more (heldEdge source sink delay) j))
 
   module _ (list : List EdgeRecord) where
     -- the list after j stores

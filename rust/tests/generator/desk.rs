@@ -1,8 +1,9 @@
 //! What several files of tests name: the example desk and proposal, a small graph, an edge in one line, a file in hexadecimal, a
-//! file's bits flipped.
+//! file's bits flipped, lines printed.
 
 use super::damage::flip;
 use resync::checker::{Edge, Graph, GraphFields, Task};
+use std::io::Write;
 
 /// Document 01's example desk.
 pub const DESK: [u8; 25] = [
@@ -67,4 +68,9 @@ pub fn flipped<const LENGTH: usize>(file: [u8; LENGTH]) -> impl Iterator<Item = 
             file
         })
     })
+}
+
+/// Straight to the output: what `println!` writes is shown of failing tests only.
+pub fn print(lines: &str) {
+    let _ = std::io::stdout().write_all(format!("{lines}\n").as_bytes());
 }

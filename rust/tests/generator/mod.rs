@@ -7,7 +7,10 @@ pub mod damage;
 pub mod desk;
 pub mod desks;
 pub mod faults;
+pub mod lists;
+pub mod plans;
 pub mod proposals;
+pub mod trials;
 
 use resync::checker::{Edge, Graph, Task};
 

@@ -43,17 +43,7 @@ impl Generator {
     pub fn graph_to_run(&mut self) -> Graph {
         let task_count = self.between(2, 6);
         let edge_count = self.between(0, 12);
-        let mut graph = self.staged_graph(task_count, edge_count);
-        let mut edges = Vec::new();
-        for edge in &graph.edges {
-            let delay = edge.delay.min(3);
-            let edge = Edge { delay, ..*edge };
-            if !edges.contains(&edge) {
-                edges.push(edge);
-            }
-        }
-        graph.edges = edges;
-        graph
+        cut_delays(self.staged_graph(task_count, edge_count))
     }
 
     /// Edges that enforce all orders in the plan's way: again and again one that may be added takes the place of all those that it
@@ -132,6 +122,20 @@ impl Generator {
         proposed.truncate(255);
         proposed.insert(self.between(0, proposed.len()), edge);
     }
+}
+
+/// The graph with no delay above 3.
+pub fn cut_delays(mut graph: Graph) -> Graph {
+    let mut edges = Vec::new();
+    for edge in &graph.edges {
+        let delay = edge.delay.min(3);
+        let edge = Edge { delay, ..*edge };
+        if !edges.contains(&edge) {
+            edges.push(edge);
+        }
+    }
+    graph.edges = edges;
+    graph
 }
 
 /// The neighbour of a task on its processor, after it or before it; the task itself if there is none.

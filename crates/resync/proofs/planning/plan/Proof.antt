@@ -1,5 +1,5 @@
--- `plan` meets its contract, by a walk of its MIR: `decide` is called on the bytes and the list's length, and `fill` on the list, which is given up to it, and
--- the stage decided. Of the two the proof knows their contracts alone. What the bytes' slice owns is had twice: one copy is kept for the exit.
+-- `plan` meets its contract, by a walk of its MIR: `decide` is called on the bytes and the list's length, and `fill` on the list, which is given up to it,
+-- and the stage decided. Of the two the proof knows their contracts alone. What the bytes' slice owns is had twice: one copy is kept for the exit.
 use mathlib.Core.Path.{_≡_, refl, sym, ap, subst, _∙_}
 use mathlib.Core.List.{List, [], _∷_}
 use Prim.Native.Nat.{ℕ, _≤_}
