@@ -51,7 +51,7 @@ fn no_edges() -> OpenEdges
     }
 }
 
-// The edges from whose sources the delay to task `a` leaves something of their own.
+// The edges from whose sources the delay to task `a` is at most their own.
 fn open_edges<'a>(
     source: &'a [u8],
     sink: &'a [u8],
