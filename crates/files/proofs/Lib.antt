@@ -2,6 +2,7 @@
 pub mod First
 pub mod Single
 pub mod Repeats
+pub mod Marks
 pub mod Frame
 pub mod Example
 pub mod Numbers

@@ -7,6 +7,7 @@ ghost use lib.ListN.{length};
 ghost use Rattle.model.specs.Tasks.{Task, Edge};
 ghost use Rattle.model.specs.Graph.{Graph};
 ghost use Rattle.files.specs.Files.{firstOf, timeRefusal, endsRefusal, edgeRefusal, repeatRefusal, repeatsEarlier, graphRecordsRefusal, proposedEdgesRefusal};
+ghost use Rattle.files.specs.Marks.{Marked};
 ghost use Rattle.records.specs.Columns.{ProcessorsOf, TimesOf, SourcesOf, SinksOf, DelaysOf};
 use crate::PASSED;
 use crate::Refusal;
@@ -96,6 +97,45 @@ fn repeats_earlier<'a>(source: &'a [u8], sink: &'a [u8], delay: &'a [u8], j: usi
     found
 }
 
+// Room for a mark at each pair of ends.
+struct Marks {
+    seen: [u8; 4096],
+}
+
+// Marks to write into.
+fn blank_marks() -> Marks
+    ensures { λ r. ⌜ length (r .seen) ≡ 4096 ⌝ }
+{
+    Marks { seen: [0; 4096] }
+}
+
+// Whether edge j has the source, sink and delay of an earlier one, where each earlier one is marked; edge j is marked too. The
+// earlier ones are compared only if the mark was there before.
+fn repeats_marked<'a>(
+    source: &'a [u8],
+    sink: &'a [u8],
+    delay: &'a [u8],
+    j: usize,
+    seen: &mut [u8],
+) -> bool
+    requires { ⌜ j < length (now source) ⌝ }
+    requires { ⌜ length (now sink) ≡ length (now source) ⌝ }
+    requires { ⌜ length (now delay) ≡ length (now source) ⌝ }
+    requires { ⌜ Marked (now source) (now sink) j (now seen) ⌝ }
+    ensures { λ r. ⌜ ((es : List Edge) → SourcesOf es (now (source .entry)) → SinksOf es (now (sink .entry)) → DelaysOf es (now (delay .entry)) → r ≡ repeatsEarlier es j) ⌝ }
+    ensures { λ _. ⌜ Marked (now (source .entry)) (now (sink .entry)) (j + 1) (now (seen .exit)) ⌝ }
+{
+    let from = source[j] as usize;
+    let to = sink[j] as usize;
+    let pair = from % 64 * 64 + to % 64;
+    let before = seen[pair];
+    seen[pair] = 1;
+    if before == 0 {
+        return false;
+    }
+    repeats_earlier(source, sink, delay, j)
+}
+
 // 8: the first edge that repeats an earlier one.
 fn repeats_refusal<'a>(source: &'a [u8], sink: &'a [u8], delay: &'a [u8]) -> Refusal
     requires { ⌜ length (now source) ≤ 256 ⌝ }
@@ -103,9 +143,11 @@ fn repeats_refusal<'a>(source: &'a [u8], sink: &'a [u8], delay: &'a [u8]) -> Ref
     requires { ⌜ length (now delay) ≡ length (now source) ⌝ }
     ensures { λ r. ⌜ ((es : List Edge) → SourcesOf es (now (source .entry)) → SinksOf es (now (sink .entry)) → DelaysOf es (now (delay .entry)) → r ≡ firstOf (length es) (repeatRefusal es)) ⌝ }
 {
+    let blank = blank_marks();
+    let mut seen = blank.seen;
     let mut j = 0;
     while j < source.len() {
-        if repeats_earlier(source, sink, delay, j) {
+        if repeats_marked(source, sink, delay, j, &mut seen) {
             return Refusal {
                 number: 8,
                 place: j as u32 + 1,

@@ -1,16 +1,15 @@
 -- A loop that fills a list from the front, one store a step: after k steps its first k elements are f 0, f 1, .., and at the end all are. And laws
--- of a search that has found nothing so far, and of lists made place by place.
+-- of lists made place by place.
 use mathlib.Core.Path.{_≡_, refl, sym, ap, _∙_, subst}
 use mathlib.Core.List.{List, [], _∷_, _++_}
 use mathlib.Core.Logic.{_⊎_, inl, inr}
-use Prim.Native.Nat.{ℕ, zero, suc, _+_, _≤_, _<_}
+use Prim.Native.Nat.{ℕ, zero, suc, _+_, _<_}
 use native.Mathlib.Nat.{not-suc-le-zero}
-use native.Mathlib.Omega.{arith}
 use native.Mathlib.Numerals.{add-one}
 use lib.ListN.{length, take, set, getD, length-set, length-append, List·getD-append}
 use lib.Seq.{take-suc-set, take-length, getD-at}
 use Rattle.model.specs.Lists.{tabulate}
-use Rattle.model.proofs.Basics.{order, below-suc}
+use Rattle.model.proofs.Basics.{below-suc}
 
 pub record Filled (f : ℕ → ℕ) (n k : ℕ) (xs : List ℕ) : Type 0 where
   pub size : length xs ≡ n
@@ -31,16 +30,6 @@ filled-more {f} {n} {k} {xs} a done below is =
 pub filled-all : {f : ℕ → ℕ} {n k : ℕ} {xs : List ℕ} → Filled f n k xs → k ≡ n → xs ≡ tabulate n f
 filled-all {f} {n} {k} {xs} done whole =
     sym (take-length xs) ∙ (ap (λ (m : ℕ). take m xs) (done .size ∙ sym whole) ∙ (done .front ∙ ap (λ (m : ℕ). tabulate m f) whole))
-
--- What holds of no number from a start to k, and not of k, holds of none from the start to k + 1.
-pub from-more : (P : ℕ → Type 0) {start k : ℕ} → ((i : ℕ) → start ≤ i → i < k → P i → ⊥) → (P k → ⊥) → (i : ℕ) → start ≤ i → i < k + 1 → P i → ⊥
-from-more P {start} {k} before at i from to = go (order k i)
-  where
-    go : (k ≤ i) ⊎ (i < k) → P i → ⊥
-    go (inl l) p =
-        let same : i ≡ k = omega arith in
-        at (subst P same p)
-    go (inr l) p = before i from l p
 
 -- ── Lists made place by place ──
 

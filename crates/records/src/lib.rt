@@ -1,13 +1,14 @@
 // Tasks and edges of a file, and processor edges, into lists of numbers: one list for each number of a task or of an edge.
 ghost use mathlib.Core.Path.{_≡_};
 ghost use mathlib.Core.List.{List};
-ghost use Prim.Native.Nat.{ℕ, _+_, _≤_, _<_};
-ghost use lib.ListN.{length, getD, take};
+ghost use Prim.Native.Nat.{_+_, _≤_, _<_};
+ghost use lib.ListN.{length, getD, take, replicate};
 ghost use Rattle.model.specs.Lists.{tabulate};
 ghost use Rattle.model.specs.Tasks.{Task};
 ghost use Rattle.model.specs.Processors.{processorEdge};
 ghost use Rattle.layout.specs.Layout.{graphHeaderBits, recordStart, taskAt, edgeAt};
 ghost use Rattle.records.specs.Columns.{withPart, ProcessorsOf, edgeOf};
+ghost use Rattle.records.specs.Nexts.{FirstOn, FirstTasks, NextTasks};
 use layout::EdgeRecord;
 use layout::GRAPH_HEADER_BITS;
 use layout::RECORD_BITS;
@@ -58,42 +59,58 @@ pub fn read_edges<'a>(
     }
 }
 
-// The first task from `from` on that runs on a processor, or the number of tasks.
-fn next_on(processor: &[u8], wanted: u8, from: usize) -> usize
-    requires { ⌜ from ≤ length (now processor) ⌝ }
-    ensures { λ r. ⌜ (from ≤ r) × (r ≤ length (now (processor .entry))) ⌝ }
-    ensures { λ r. ⌜ ((k : ℕ) → from ≤ k → k < r → getD (now (processor .entry)) k 0 ≡ wanted → ⊥) ⌝ }
-    ensures { λ r. ⌜ (r < length (now (processor .entry)) → getD (now (processor .entry)) r 0 ≡ wanted) ⌝ }
+// What a search over the tasks finds: for each task the next one on its processor, for each processor its first task.
+struct Found {
+    next: [u8; 64],
+    first: [u8; 256],
+}
+
+// No task.
+const NONE: u8 = 64;
+
+// Nothing found yet.
+fn none_found() -> Found
+    ensures { λ r. ⌜ (length (r .next) ≡ 64) × (r .first ≡ replicate 256 64) ⌝ }
 {
-    let mut k = from;
-    while k < processor.len() {
-        if processor[k] == wanted {
-            return k;
-        }
-        k += 1;
+    Found {
+        next: [NONE; 64],
+        first: [NONE; 256],
     }
-    k
+}
+
+// One pass from the last task to the first: the first task on a processor from a task on is the next one for the task before.
+fn find_next<'a>(processor: &[u8], next: &'a mut [u8], first: &'a mut [u8])
+    requires { ⌜ (length (now processor) ≤ 64) × (length (now next) ≡ 64) ⌝ }
+    requires { ⌜ FirstTasks (now processor) (length (now processor)) (now first) ⌝ }
+    ensures { λ _. ⌜ NextTasks (now (processor .entry)) 0 (now (next .exit)) ⌝ }
+    ensures { λ _. ⌜ FirstTasks (now (processor .entry)) 0 (now (first .exit)) ⌝ }
+{
+    let mut v = processor.len();
+    while v > 0 {
+        v -= 1;
+        let own = processor[v] as usize;
+        next[v] = first[own];
+        first[own] = v as u8;
+    }
 }
 
 // The processor edge out of a task: to the next task on its processor with delay 0, from the last to the first with delay 1.
-fn processor_edge(processor: &[u8], v: usize) -> EdgeRecord
-    requires { ⌜ v < length (now processor) ⌝ }
-    requires { ⌜ length (now processor) ≤ 64 ⌝ }
+fn processor_edge(processor: &[u8], v: usize, next: u8, first: u8) -> EdgeRecord
+    requires { ⌜ (v < length (now processor)) × (length (now processor) ≤ 64) ⌝ }
+    requires { ⌜ FirstOn (now processor) (getD (now processor) v 0) (v + 1) next ⌝ }
+    requires { ⌜ FirstOn (now processor) (getD (now processor) v 0) 0 first ⌝ }
     ensures { λ r. ⌜ ((ts : List Task) → ProcessorsOf ts (now (processor .entry)) → edgeOf r ≡ processorEdge ts v) ⌝ }
 {
-    let own = processor[v];
-    let next = next_on(processor, own, v + 1);
-    if next < processor.len() {
+    if (next as usize) < processor.len() {
         return EdgeRecord {
             source: v as u8,
-            sink: next as u8,
+            sink: next,
             delay: 0,
         };
     }
-    let first = next_on(processor, own, 0);
     EdgeRecord {
         source: v as u8,
-        sink: first as u8,
+        sink: first,
         delay: 1,
     }
 }
@@ -113,9 +130,14 @@ pub fn processor_edges<'a>(
     ensures { λ _. ⌜ ((ts : List Task) → ProcessorsOf ts (now (processor .entry)) → now (sink .exit) ≡ tabulate (length ts) (λ v. processorEdge ts v .sink)) ⌝ }
     ensures { λ _. ⌜ ((ts : List Task) → ProcessorsOf ts (now (processor .entry)) → now (delay .exit) ≡ tabulate (length ts) (λ v. processorEdge ts v .delay)) ⌝ }
 {
+    let found = none_found();
+    let mut next = found.next;
+    let mut first = found.first;
+    find_next(processor, &mut next, &mut first);
     let mut v = 0;
     while v < processor.len() {
-        let edge = processor_edge(processor, v);
+        let own = processor[v] as usize;
+        let edge = processor_edge(processor, v, next[v], first[own]);
         source[v] = edge.source;
         sink[v] = edge.sink;
         delay[v] = edge.delay;
