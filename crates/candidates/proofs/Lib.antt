@@ -2,5 +2,7 @@
 pub mod Places
 pub mod Diagonal
 pub mod Within
+pub mod Columns
+pub mod Counts
 pub mod Worth
 pub mod Best

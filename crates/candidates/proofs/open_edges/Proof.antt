@@ -1,36 +1,34 @@
 -- `candidates::open_edges` meets its contract: after j steps the lists hold those of the first j edges that are open for the task, at most j.
-use mathlib.Core.Path.{_≡_, refl, ap}
-use mathlib.Core.Logic.{⊎-elim}
-use Prim.Native.Nat.{ℕ, _+_, _-_, _*_, _≤_, _<_}
+use mathlib.Core.Path.{_≡_, refl, sym, ap, _∙_}
+use Prim.Native.Nat.{ℕ, _+_, _-_, _≤_, _<_}
 use native.Mathlib.Numerals.{add-one}
 use native.Mathlib.Omega.{arith}
-use lib.ListN.{length, getD}
+use lib.Dec.{leb}
+use lib.ListN.{length, getD, set}
 use borrow.Author.Needs.{needs}
-use Rattle.model.specs.Lists.{tabulate}
+use Rattle.model.specs.Lists.{tabulate, counted}
 use Rattle.records.specs.Columns.{at, heldEdge, edgesOf}
 use Rattle.records.proofs.Edges.{edge-in}
-use Rattle.records.proofs.Rows.{place-within, place-small}
-use Rattle.candidates.specs.Candidates.{tableAt}
 use Rattle.candidates.specs.Searches.{OpenFor}
-use Rattle.candidates.proofs.Within.{open-none, open-more, open-kept, open-same}
+use Rattle.candidates.proofs.Within.{counted-few, open-none, open-next, open-same}
 use Rattle.candidates.proofs.open_edges.Statement.{statement}
 use Rattle.candidates.proofs.open_edges.Tie as tie
 
 abbrev Inv-loop : tie.InvT-loop
-Inv-loop source sink delay table tasks a to-sink₀ to-left₀ count₀ j₀ to-sink to-left count j =
-    (j ≤ length source) × (count ≤ j) × OpenFor tasks table a (tabulate j (heldEdge source sink delay)) count to-sink to-left
+Inv-loop source sink delay column open-sink₀ open-left₀ count₀ j₀ open-sink open-left count j =
+    (j ≤ length source) × (count ≤ j) × OpenFor (length column) (at column) (tabulate j (heldEdge source sink delay)) count open-sink open-left
 
 abbrev μ-loop : tie.MeasureT-loop
-μ-loop source sink delay table tasks a to-sink₀ to-left₀ count₀ j₀ to-sink to-left count j = length source - j
+μ-loop source sink delay column open-sink₀ open-left₀ count₀ j₀ open-sink open-left count j = length source - j
 
 abbrev start : tie.In-loop Inv-loop μ-loop → tie.Start Inv-loop μ-loop
-start c = c .before .before .before .before .before .before .before .before .before
+start c = c .before .before .before .before .before .before .before .before
 
 -- the edge looked at joins two tasks
 ends :
     (c : tie.In-loop Inv-loop μ-loop)
-    → (getD (start c .args .source .now) (c .before .loop .j) 0 < start c .args .tasks)
-    × (getD (start c .args .sink .now) (c .before .loop .j) 0 < start c .args .tasks)
+    → (getD (start c .args .source .now) (c .before .loop .j) 0 < length (start c .args .column .now))
+    × (getD (start c .args .sink .now) (c .before .loop .j) 0 < length (start c .args .column .now))
 unfolding heldEdge
 ends c =
     let args = start c .args in
@@ -40,30 +38,24 @@ ends c =
     let j = c .before .loop .j in
     start c .pre .1 .1 (heldEdge source sink delay j) (edge-in source sink delay j (c .loop-test .taken))
 
--- the entry read stands within the table
-small : (c : tie.In-loop Inv-loop μ-loop) → getD (start c .args .source .now) (c .before .loop .j) 0 * start c .args .tasks + start c .args .a < 4096
-small c =
-    let n = start c .args .tasks in
-    let asked = start c .pre .1 .0 in
-    place-small n (getD (start c .args .source .now) (c .before .loop .j) 0) (start c .args .a) (asked .0) (ends c .0) (asked .2)
+-- the delay from its source to the task, and its own
+abbrev before : tie.In-loop Inv-loop μ-loop → ℕ
+before c = getD (start c .args .column .now) (getD (start c .args .source .now) (c .before .loop .j) 0) 0
 
-inside :
-    (c : tie.In-loop Inv-loop μ-loop)
-    → getD (start c .args .source .now) (c .before .loop .j) 0 * start c .args .tasks + start c .args .a < length (start c .args .table .now)
-inside c =
-    let n = start c .args .tasks in
-    let asked = start c .pre .1 .0 in
-    omega (arith, place-within n n (getD (start c .args .source .now) (c .before .loop .j) 0) (start c .args .a) (ends c .0) (asked .2), asked .1)
+abbrev own : tie.In-loop Inv-loop μ-loop → ℕ
+own c = getD (start c .args .delay .now) (c .before .loop .j) 0
 
-no-edges-requires : tie.Need-no-edges-requires Inv-loop μ-loop
-no-edges-requires c κs = search needs
+-- it is counted at most once
+once : (c : tie.In-loop Inv-loop μ-loop) → counted (leb (before c) (own c)) 1 ≤ 1
+once c = counted-few (leb (before c) (own c)) 1
 
 loop-holds : tie.Need-loop-holds Inv-loop μ-loop
 unfolding tabulate
 loop-holds c =
-    let args = c .before .before .before .before .before .before .before .args in
-    let blank = c .before .before .no-edges .ensures in
-    (omega arith, omega arith, open-none (args .tasks) (args .table .now) (args .a) (blank .1) (blank .2))
+    let args = c .before .before .before .before .before .before .args in
+    let asked = c .before .before .before .before .before .before .pre in
+    let column = args .column .now in
+    (omega arith, omega arith, open-none (length column) (at column) (asked .1 .0 .0) (asked .1 .0 .1))
 
 shared-slice-read-before : tie.Need-shared-slice-read-before Inv-loop μ-loop
 shared-slice-read-before c = omega arith
@@ -72,50 +64,58 @@ cast-before : tie.Need-cast-before Inv-loop μ-loop
 cast-before c = omega (arith, c .shared-slice-known5 .given (c .before .before .loop .j))
 
 mul-before : tie.Need-mul-before Inv-loop μ-loop
-mul-before c = omega (arith, small (c .before))
-
-add-before : tie.Need-add-before Inv-loop μ-loop
-add-before c = omega (arith, small (c .before))
-
-mul-before-2 : tie.Need-mul-before-2 Inv-loop μ-loop
-mul-before-2 c = omega (arith, small (c .before))
+mul-before c = omega (arith, c .shared-slice-known5 .given (c .before .before .loop .j))
 
 shared-slice-read-before-2 : tie.Need-shared-slice-read-before-2 Inv-loop μ-loop
-shared-slice-read-before-2 c = inside (c .before .before)
+shared-slice-read-before-2 c =
+    let inner = c .before .before in
+    ends inner .0
 
-shared-slice-read-if1 : tie.Need-shared-slice-read-if1 Inv-loop μ-loop
-shared-slice-read-if1 c = omega (arith, start (c .before .before .before) .pre .0)
+shared-slice-read-own : tie.Need-shared-slice-read-own Inv-loop μ-loop
+shared-slice-read-own c =
+    let inner = c .before .before .before in
+    omega (arith, start inner .pre .0)
 
-cast-if1 : tie.Need-cast-if1 Inv-loop μ-loop
-cast-if1 c = omega (arith, c .shared-slice-known7 .given (c .before .before .before .before .loop .j))
+cast-own : tie.Need-cast-own Inv-loop μ-loop
+cast-own c =
+    let inner = c .before .before .before in
+    omega (arith, c .shared-slice-known7 .given (inner .before .loop .j))
 
-shared-slice-read-to-sink : tie.Need-shared-slice-read-to-sink Inv-loop μ-loop
-shared-slice-read-to-sink c = omega (arith, start (c .before .before .before .before .before) .pre .0)
+shared-slice-read-open-sink : tie.Need-shared-slice-read-open-sink Inv-loop μ-loop
+shared-slice-read-open-sink c =
+    let inner = c .before .before .before .before in
+    omega (arith, start inner .pre .0)
 
-array-write-to-sink : tie.Need-array-write-to-sink Inv-loop μ-loop
-array-write-to-sink c =
-    let loop = c .before .before .before .before .before .before .loop in
-    omega (arith, start (c .before .before .before .before .before) .pre .0, loop .inv .1)
+slice-write-open-sink : tie.Need-slice-write-open-sink Inv-loop μ-loop
+slice-write-open-sink c =
+    let inner = c .before .before .before .before in
+    omega (arith, inner .before .loop .inv .1, inner .before .loop .inv .2 .sink-room, start inner .pre .0)
 
-shared-slice-read-to-left : tie.Need-shared-slice-read-to-left Inv-loop μ-loop
-shared-slice-read-to-left c = omega (arith, start (c .before .before .before .before .before .before) .pre .0)
+left-of-requires : tie.Need-left-of-requires Inv-loop μ-loop
+left-of-requires c κs = search needs
 
-cast-to-left : tie.Need-cast-to-left Inv-loop μ-loop
-cast-to-left c =
-    omega (arith, c .before .before .if1 .taken, c .shared-slice-known9 .given (c .before .before .before .before .before .before .before .loop .j))
+mul-open-left : tie.Need-mul-open-left Inv-loop μ-loop
+mul-open-left c =
+    let inner = c .before .before .before .before .before in
+    omega (arith, inner .before .loop .inv .1, inner .before .loop .inv .2 .left-room, start inner .pre .0)
 
-sub-to-left : tie.Need-sub-to-left Inv-loop μ-loop
-sub-to-left c = omega (arith, c .before .before .if1 .taken)
+slice-write-open-left : tie.Need-slice-write-open-left Inv-loop μ-loop
+slice-write-open-left c =
+    let inner = c .before .before .before .before .before in
+    omega (arith, inner .before .loop .inv .1, inner .before .loop .inv .2 .left-room, start inner .pre .0)
 
-array-write-to-left : tie.Need-array-write-to-left Inv-loop μ-loop
-array-write-to-left c =
-    let loop = c .before .before .before .before .before .before .before .loop in
-    omega (arith, start (c .before .before .before .before .before .before) .pre .0, loop .inv .1)
+fits-requires : tie.Need-fits-requires Inv-loop μ-loop
+fits-requires c κs = search needs
+
+cast-count : tie.Need-cast-count Inv-loop μ-loop
+cast-count c =
+    let inner = c .before .before .before .before .before .before in
+    omega (arith, c .fits2 .ensures, once inner)
 
 add-count : tie.Need-add-count Inv-loop μ-loop
 add-count c =
-    let loop = c .before .before .before .before .before .before .before .loop in
-    omega (arith, start (c .before .before .before .before .before .before) .pre .0, loop .inv .1)
+    let inner = c .before .before .before .before .before .before in
+    omega (arith, inner .before .loop .inv .1, start inner .pre .0, c .fits2 .ensures, once inner)
 
 add-j : tie.Need-add-j Inv-loop μ-loop
 add-j c = omega arith
@@ -124,36 +124,38 @@ loop-less : tie.Need-loop-less Inv-loop μ-loop
 loop-less c = omega arith
 
 loop-again : tie.Need-loop-again Inv-loop μ-loop
-unfolding heldEdge tabulate tableAt at
+unfolding heldEdge tabulate at
 loop-again c =
-    let inner = c .before .before .before .before in
+    let inner = c .before .before .before .before .before .before in
     let args = start inner .args in
-    let loop = c .before .before .before .before .before .loop in
+    let loop = inner .before .loop in
+    let column = args .column .now in
     let f = heldEdge (args .source .now) (args .sink .now) (args .delay .now) in
     let j = loop .j in
-    let inv = loop .inv in
-    let next = ap (λ (k : ℕ). tabulate k f) (add-one j) in (
+    let inv = loop .inv in (
       omega arith,
-      ⊎-elim (λ w. omega (arith, w .5, inv .1)) (λ w. omega (arith, w .3, inv .1)) (c .if1 .came),
-      ⊎-elim
-          (λ w.
-          open-same
-          (open-more (args .tasks) (args .table .now) (args .a) (f j) (inv .2) (omega (arith, start inner .pre .0, inv .1)) (ends inner .1) (w .0 .taken))
-          next (w .5) (w .3) (w .4))
-          (λ w. open-same (open-kept (args .tasks) (args .table .now) (args .a) (f j) (inv .2) (w .0 .left)) next (w .3) (w .1) (w .2)) (c .if1 .came),
+      omega (arith, inv .1, c .fits2 .ensures, once inner),
+      open-same
+          (open-next (length column) (at column) (f j) (inv .2) (omega (arith, start inner .pre .0, inv .1)) (ends inner .1))
+          (ap (λ (k : ℕ). tabulate k f) (add-one j))
+          (ap (λ (k : ℕ). loop .count + k) (c .fits2 .ensures))
+          refl
+          (ap (λ (x : ℕ). set (loop .open-left) (loop .count) x) (c .before .left-of .ensures)),
     )
 
-cast-t32 : tie.Need-cast-t32 Inv-loop μ-loop
-cast-t32 c = omega (arith, c .before .loop .inv .2 .few)
+same-length : tie.Need-same-length Inv-loop μ-loop
+same-length c = c .before .loop .inv .2 .sink-room ∙ sym (c .before .before .before .before .before .before .before .before .pre .1 .0 .0)
+
+same-length-2 : tie.Need-same-length-2 Inv-loop μ-loop
+same-length-2 c = c .before .loop .inv .2 .left-room ∙ sym (c .before .before .before .before .before .before .before .before .pre .1 .0 .1)
 
 returns : tie.Need-returns Inv-loop μ-loop
 unfolding edgesOf
 returns c =
-    let args = c .before .before .before .before .before .before .before .before .before .args in
-    let loop = c .before .loop in
+    let args = c .before .before .before .before .before .before .before .before .args in
     let f = heldEdge (args .source .now) (args .sink .now) (args .delay .now) in
-    let whole : length (args .source .now) ≡ loop .j = omega arith in
-    open-same (loop .inv .2) (ap (λ (k : ℕ). tabulate k f) whole) refl refl refl
+    let whole : length (args .source .now) ≡ c .before .loop .j = omega arith in
+    open-same (c .before .loop .inv .2) (ap (λ (k : ℕ). tabulate k f) whole) refl refl refl
 
 pub open-edges-spec : {M : Type 1} → statement M
 open-edges-spec =
@@ -161,25 +163,24 @@ open-edges-spec =
     (tie.spec
     Inv-loop
     μ-loop
-    no-edges-requires
     loop-holds
     shared-slice-read-before
     cast-before
     mul-before
-    add-before
-    mul-before-2
     shared-slice-read-before-2
-    shared-slice-read-if1
-    cast-if1
-    shared-slice-read-to-sink
-    array-write-to-sink
-    shared-slice-read-to-left
-    cast-to-left
-    sub-to-left
-    array-write-to-left
+    shared-slice-read-own
+    cast-own
+    shared-slice-read-open-sink
+    slice-write-open-sink
+    left-of-requires
+    mul-open-left
+    slice-write-open-left
+    fits-requires
+    cast-count
     add-count
     add-j
     loop-less
     loop-again
-    cast-t32
+    same-length
+    same-length-2
     returns)
