@@ -1,4 +1,5 @@
 -- The proofs that other crates may cite.
+pub mod Linked
 pub mod Others
 pub mod Ways
 pub mod Words

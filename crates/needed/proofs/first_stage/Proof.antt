@@ -1,8 +1,9 @@
 -- `needed::first_stage` meets its contract: the fronts hold the graph's edges, so the table and the marks are theirs, and the needed edges among
 -- those of the file are the first stage.
 use mathlib.Core.Path.{refl, sym, ap, _∙_}
+use Prim.Native.Nat.{_+_, _-_}
 use native.Mathlib.Omega.{arith}
-use lib.ListN.{length}
+use lib.ListN.{length, length-take}
 use Rattle.schedule.proofs.Fronts.{frontEdges}
 use Rattle.delays.proofs.Table.{table-length, table-front, table-room}
 use Rattle.results.proofs.Fronts.{held-same}
@@ -107,7 +108,7 @@ redundant-marks-requires c κs =
     let given = c .before .before .before .before .before .before .before .before .before .before .before .before .before .before .before .before .before .before .before .before .before .before .before .before .pre .1 in
     let held = graph-fronts given in (
       (held .as-many-sinks, held .as-many-delays),
-      (few-tasks given, (front-fit given, table-front (graph .tasks) (frontEdges graph) _ (c .before .before .before .before .before .before .before .before .before .least-table .ensures))),
+      ((few-tasks given, omega (arith, held .source-room, length-take (graph .tasks + graph .edges - 0) (graph .source))), (front-fit given, table-front (graph .tasks) (frontEdges graph) _ (c .before .before .before .before .before .before .before .before .before .least-table .ensures))),
     )
 
 blank-stage-requires : tie.Need-blank-stage-requires

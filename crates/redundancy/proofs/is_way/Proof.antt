@@ -2,88 +2,63 @@
 use mathlib.Core.Path.{_≡_, ap, _∙_, subst}
 use mathlib.Core.Logic.{_⊎_, _≢_}
 use mathlib.Core.List.{List}
-use Prim.Native.Nat.{ℕ, _+_, _*_, _<_}
+use Prim.Native.Nat.{ℕ, _+_, _*_}
 use native.Mathlib.Omega.{arith}
 use lib.ListN.{length, getD}
 use borrow.Author.Needs.{needs}
-use Rattle.model.proofs.Tests.{decides-iff}
 use Rattle.records.specs.Columns.{heldEdge, edgesOf}
 use Rattle.records.proofs.Edges.{edge-in}
 use Rattle.redundancy.specs.Redundancy.{Tabled}
 use Rattle.delays.proofs.Table.{table-length}
+use Rattle.redundancy.proofs.Linked.{ends-below}
 use Rattle.redundancy.proofs.Ways.{way-decided}
 use Rattle.redundancy.proofs.is_way.Statement.{statement}
 use Rattle.redundancy.proofs.is_way.Tie as tie
 
--- Each sink is a task, and the table has an entry for every two tasks.
-sink-below : {n : ℕ} {source sink delay table : List ℕ} → Tabled n source sink delay table → (j : ℕ) → j < length source → getD sink j 0 < n
-unfolding heldEdge
-sink-below {n} {source} {sink} {delay} tabled j l = tabled .fit .ends (heldEdge source sink delay j) (edge-in source sink delay j l) .1
-
+-- The table has an entry for every two tasks.
 entries : {n : ℕ} {source sink delay table : List ℕ} → Tabled n source sink delay table → length table ≡ n * n
 entries {n} {source} {sink} {delay} tabled =
     ap (λ (xs : List ℕ). length xs) (tabled .least) ∙ table-length n (edgesOf source sink delay)
-
-shared-slice-read-if1 : tie.Need-shared-slice-read-if1
-shared-slice-read-if1 c = search needs
-
-shared-slice-read-if1-2 : tie.Need-shared-slice-read-if1-2
-shared-slice-read-if1-2 c = search needs
-
-returns : tie.Need-returns
-unfolding heldEdge
-returns c = decides-iff (λ t. absurd t) (λ way. absurd (c .if1 .taken (way .same-source)))
 
 shared-slice-read-next : tie.Need-shared-slice-read-next
 shared-slice-read-next c = search needs
 
 cast-next : tie.Need-cast-next
-cast-next c =
-    let start = c .before .before .before .before .before .before .before .before in
-    omega (arith, c .shared-slice-known7 .given (start .args .j))
+cast-next c = omega (arith, c .shared-slice-known5 .given (c .before .before .before .before .before .args .j))
 
 shared-slice-read-to : tie.Need-shared-slice-read-to
 shared-slice-read-to c = search needs
 
 cast-to : tie.Need-cast-to
-cast-to c =
-    let start = c .before .before .before .before .before .before .before .before .before in
-    omega (arith, c .shared-slice-known8 .given (start .args .own))
+cast-to c = omega (arith, c .shared-slice-known6 .given (c .before .before .before .before .before .before .args .own))
 
 shared-slice-read-result : tie.Need-shared-slice-read-result
 shared-slice-read-result c = search needs
 
 cast-result : tie.Need-cast-result
-cast-result c =
-    let start = c .before .before .before .before .before .before .before .before .before .before in
-    omega (arith, c .shared-slice-known9 .given (start .args .j))
+cast-result c = omega (arith, c .shared-slice-known7 .given (c .before .before .before .before .before .before .before .args .j))
 
 onward-requires : tie.Need-onward-requires
 onward-requires c κs =
-    let start = c .before .before .before .before .before .before .before .before .before .before in
-    let asked = start .pre in
+    let asked = c .before .before .before .before .before .before .before .pre in
     let tabled = asked .1 in
-    let next = sink-below tabled (start .args .j) (asked .0 .1) in
-    let to = sink-below tabled (start .args .own) (asked .0 .0) in
-    (tabled .few, omega (arith, next, to), omega (arith, next, to), entries tabled)
+    let next = ends-below tabled (c .before .before .before .before .before .before .before .args .j) (asked .0 .1) in
+    let to = ends-below tabled (c .before .before .before .before .before .before .before .args .own) (asked .0 .0) in
+    (tabled .few, omega arith, omega arith, entries tabled)
 
 add-result : tie.Need-add-result
-add-result c =
-    let start = c .before .before .before .before .before .before .before .before .before .before .before in
-    omega (arith, c .before .shared-slice-known9 .given (start .args .j), c .onward .ensures .0)
+add-result c = omega (arith, c .before .shared-slice-known7 .given (c .before .before .before .before .before .before .before .before .args .j), c .onward .ensures .0)
 
 shared-slice-read-result-2 : tie.Need-shared-slice-read-result-2
 shared-slice-read-result-2 c = search needs
 
 cast-result-2 : tie.Need-cast-result-2
-cast-result-2 c =
-    let start = c .before .before .before .before .before .before .before .before .before .before .before .before in
-    omega (arith, c .shared-slice-known10 .given (start .args .own))
+cast-result-2 c = omega (arith, c .shared-slice-known8 .given (c .before .before .before .before .before .before .before .before .before .args .own))
 
-returns-2 : tie.Need-returns-2
+returns : tie.Need-returns
 unfolding heldEdge
-returns-2 c =
-    let start = c .before .before .before .before .before .before .before .before .before .before .before .before in
+returns c =
+    let start = c .before .before .before .before .before .before .before .before .before in
     let source = start .args .source .now in
     let sink = start .args .sink .now in
     let delay = start .args .delay .now in
@@ -93,7 +68,7 @@ returns-2 c =
     let tabled = asked .1 in
     let onward = c .before .onward .result in
     way-decided (tabled .fit) (heldEdge source sink delay own) (heldEdge source sink delay j) (edge-in source sink delay own (asked .0 .0))
-    (c .before .before .before .before .before .if1 .left) onward (edge-in source sink delay j (asked .0 .1))
+    (asked .0 .2) onward (edge-in source sink delay j (asked .0 .1))
     (subst
     (λ (xs : List ℕ).
     ((getD sink j 0 ≡ getD sink own 0) × (onward ≡ 0)) ⊎
@@ -104,9 +79,6 @@ pub is-way-spec : {M : Type 1} → statement M
 is-way-spec =
     tie.close
     (tie.spec
-    shared-slice-read-if1
-    shared-slice-read-if1-2
-    returns
     shared-slice-read-next
     cast-next
     shared-slice-read-to
@@ -117,4 +89,4 @@ is-way-spec =
     add-result
     shared-slice-read-result-2
     cast-result-2
-    returns-2)
+    returns)

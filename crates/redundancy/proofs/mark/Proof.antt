@@ -22,7 +22,7 @@ returns-2 c = (omega arith, λ g held i is. ap (λ (b : Bool). counted b 1) (sym
 returns-3 : tie.Need-returns-3
 unfolding counted
 returns-3 c =
-    let args = c .before .before .before .before .before .args in (
+    let args = c .before .before .before .before .before .before .before .args in (
       omega arith,
       λ g held i is.
           ap (λ (b : Bool). counted b 1)

@@ -12,21 +12,21 @@ use Rattle.redundancy.proofs.mark_word.Statement.{statement}
 use Rattle.redundancy.proofs.mark_word.Tie as tie
 
 abbrev Inv-loop : tie.InvT-loop
-Inv-loop source sink delay table tasks first start word₀ j₀ word j =
+Inv-loop source sink delay table tasks head link first start word₀ j₀ word j =
     (j ≤ 64) × (word < 2 ^ j) ×
     ((g : Graph) → HeldGraph g tasks (edgesOf source sink delay) → word ≡ number j (λ i. isRedundant g (first + i)))
 
 abbrev μ-loop : tie.MeasureT-loop
-μ-loop source sink delay table tasks first start word₀ j₀ word j = 64 - j
+μ-loop source sink delay table tasks head link first start word₀ j₀ word j = 64 - j
 
 add-start : tie.Need-add-start Inv-loop μ-loop
 add-start c =
-    let asked = c .before .before .before .before .pre in
-    omega (arith, asked .0, asked .1 .few)
+    let asked = c .before .before .before .before .before .before .pre in
+    omega (arith, asked .0, asked .1 .0 .few)
 
 loop-holds : tie.Need-loop-holds Inv-loop μ-loop
 loop-holds c =
-    let first = c .before .before .before .before .args .first in
+    let first = c .before .before .before .before .before .before .args .first in
     (omega arith, omega arith, λ g held. number-none (λ i. isRedundant g (first + i)))
 
 mul-word : tie.Need-mul-word Inv-loop μ-loop
@@ -37,11 +37,11 @@ mul-word c =
 
 add-mark : tie.Need-add-mark Inv-loop μ-loop
 add-mark c =
-    let asked = c .before .before .before .before .before .before .pre in
-    omega (arith, asked .0, asked .1 .few)
+    let asked = c .before .before .before .before .before .before .before .before .pre in
+    omega (arith, asked .0, asked .1 .0 .few)
 
 mark-requires : tie.Need-mark-requires Inv-loop μ-loop
-mark-requires c κs = c .before .before .before .before .before .before .pre .1
+mark-requires c κs = c .before .before .before .before .before .before .before .before .pre .1
 
 add-word : tie.Need-add-word Inv-loop μ-loop
 add-word c =
@@ -58,7 +58,7 @@ loop-less c = omega arith
 
 loop-again : tie.Need-loop-again Inv-loop μ-loop
 loop-again c =
-    let args = c .before .before .before .before .before .before .before .args in
+    let args = c .before .before .before .before .before .before .before .before .before .args in
     let loop = c .before .before .loop in (
       omega arith,
       digit-more (loop .j) (loop .inv .1) (c .mark .ensures .0),
@@ -69,7 +69,7 @@ loop-again c =
 
 returns : tie.Need-returns Inv-loop μ-loop
 returns c = λ g held.
-    let args = c .before .before .before .before .before .before .args in
+    let args = c .before .before .before .before .before .before .before .before .args in
     let loop = c .before .loop in
     let last : loop .j ≡ 64 = omega arith in
     subst (λ (k : ℕ). loop .word ≡ number k (λ i. isRedundant g (args .first + i))) last (loop .inv .2 g held)

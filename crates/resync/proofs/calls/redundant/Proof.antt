@@ -1,7 +1,9 @@
 -- `resync::calls::redundant` meets its contract: the table of the fronts that were read is the graph's, so the marks are those of its redundant edges,
 -- and their ones are counted.
 use mathlib.Core.Path.{sym}
+use Prim.Native.Nat.{_+_, _-_}
 use native.Mathlib.Omega.{arith}
+use lib.ListN.{length-take}
 use Rattle.files.specs.Files.{graphOf}
 use Rattle.redundancy.specs.Redundancy.{HeldGraph}
 use Rattle.schedule.proofs.Fronts.{frontEdges}
@@ -155,7 +157,7 @@ redundant-marks-requires c κs =
     let well = well-formed s is none in
     let reading = c .before .before .before .before .before .before .before .before .before .before .before .before .before .before .before .before .before .before .before .before .before .before .before .before .before .before .before .before .before .accept .result .reading in (
       (held .as-many-sinks, held .as-many-delays),
-      (few-tasks s is, (read-fit s is none, table-front (reading .tasks) (frontEdges reading) _ (c .before .before .before .before .before .before .before .before .before .least-table .ensures))),
+      ((few-tasks s is, omega (arith, held .source-room, length-take (reading .tasks + reading .edges - 0) (reading .source))), (read-fit s is none, table-front (reading .tasks) (frontEdges reading) _ (c .before .before .before .before .before .before .before .before .before .least-table .ensures))),
     )
 
 count-requires : tie.Need-count-requires
