@@ -25,3 +25,7 @@ delayTable n es = rows n (delayRow n es)
 pub record Fit (n : ℕ) (es : List Edge) : Type 0 where
   pub ends : Ends n es
   pub delays : (e : Edge) → e ∈ es → e .delay ≤ 255
+
+-- an edge of its three numbers
+abbrev pub edge : ℕ → ℕ → ℕ → Edge
+edge source sink delay = record { source = source; sink = sink; delay = delay }

@@ -3,7 +3,7 @@
 -- 2^23 on it is therefore the longest way to the output, and below there is no way.
 use mathlib.Core.Path.{_≡_, refl, sym, ap, subst, _∙_}
 use mathlib.Core.Logic.{_↔_, _⊎_, inl, inr}
-use mathlib.Core.Bool.{Bool, true, false, not}
+use mathlib.Core.Bool.{not}
 use mathlib.Core.List.{List, [], _∷_}
 use Prim.Native.Nat.{ℕ, zero, suc, _+_, _-_, _*_, _≤_, _<_, max}
 use native.Mathlib.Nat.{le-refl, le-max-left, max-le, mul-le-mul, not-suc-le-zero}
@@ -24,8 +24,8 @@ use Rattle.records.proofs.Parts.{zeros-length, zeros-room}
 use Rattle.waits.specs.Waits.{Settles}
 use Rattle.waits.proofs.Ends.{every-edge}
 use Rattle.waits.proofs.Lifts.{lifted-there, lifted-elsewhere, lifted-below}
+use Rattle.passes.specs.Passes.{Bounded, Settled}
 use Rattle.starts.proofs.Limits.{ends-by}
-use Rattle.starts.proofs.Raised.{SettleEnsured}
 use Rattle.starts.proofs.Cycles.{acyclic, turn-settles}
 use Rattle.starts.proofs.Turns.{Ready, blank-at, end-fits}
 use Rattle.latest.specs.Latest.{InTimeFrom}
@@ -115,16 +115,15 @@ module _
               omega arith;
         }
 
-    -- so those raised do
-    settled :
-        {given row : ℕ → ℕ} {r : Bool} → ((v : ℕ) → v < n → given v ≤ reached) → SettleEnsured n rs (at time) given far row r →
-        Settles n rs (at time) given row
+    -- so they bound those raised
+    bounded : {given : List ℕ} → length given ≡ n → ((v : ℕ) → v < n → at given v ≤ reached) → Bounded rs (at time) given
     unfolding mirrored
-    settled {given} {row} {r} low ensured = go r refl
-      where
-        go : (b : Bool) → r ≡ b → Settles n rs (at time) given row
-        go true q = ensured .0 q
-        go false q = absurd (ensured .1 .1 q mirrored (mirrored-settles low) (λ v l. omega arith))
+    bounded {given} long low =
+        record {
+          bound = mirrored;
+          settles = subst (λ (m : ℕ). Settles m rs (at time) (at given) mirrored) (sym long) (mirrored-settles low);
+          low = λ v l. omega arith;
+        }
 
     module _
         {output : ℕ} (inside : output < n) {given : ℕ → ℕ} (first : given output ≡ reached)
@@ -324,23 +323,29 @@ module _ {n output : ℕ} (inside : output < n) {cleared : List ℕ} (blank : cl
       go (inl new) = inl new
       go (inr same) = inr (same ∙ blank-at blank v l)
 
-  pub given-low : (v : ℕ) → v < n → at given v ≤ reached
+  given-low : (v : ℕ) → v < n → at given v ≤ reached
   given-low v l = go (given-at v l)
     where
       go : Begun output v (at given v) → at given v ≤ reached
       go (inl new) = let is = new .1 in omega arith
       go (inr z) = omega arith
 
-  -- what `settle` leaves says the latest start of every task
-  pub raised-ways :
-      (source sink delay : List ℕ) {time : List ℕ} → length sink ≡ length source → Ready n (edgesOf source sink delay) time → (row : List ℕ) →
-      length row ≡ length given → {r : Bool} →
-      SettleEnsured (length given) (edgesOf sink source delay) (at time) (at given) far (at row) r → {bound : ℕ} →
-      latency n (edgesOf source sink delay) (at time) output ≤ bound → (v : ℕ) → v < n →
-      Way (edgesOf source sink delay) (at time) output bound v (at row v)
-  raised-ways source sink delay {time} same ready row sized {r} ensured fits v l =
-      let forth = turned-in source sink delay same in
-      let back = turned-in sink source delay (sym same) in
-      let settle = subst (λ (m : ℕ). SettleEnsured m (edgesOf sink source delay) (at time) (at given) far (at row) r) given-length ensured in
-      way ready forth back inside (lifted-there cleared output reached there) given-at row (sized ∙ given-length)
-      (settled ready forth back given-low settle) (settle .1 .0) v l fits
+  module _
+      (source sink delay : List ℕ) {time : List ℕ} (same : length sink ≡ length source) (ready : Ready n (edgesOf source sink delay) time)
+    where
+      -- what `settle_back` asks for
+      pub given-bounded : Bounded (edgesOf sink source delay) (at time) given
+      given-bounded = bounded ready (turned-in source sink delay same) (turned-in sink source delay (sym same)) given-length given-low
+
+      -- what it leaves says the latest start of every task
+      pub raised-ways :
+          (row : List ℕ) → length row ≡ length given → Settled (edgesOf sink source delay) (at time) given row → {bound : ℕ} →
+          latency n (edgesOf source sink delay) (at time) output ≤ bound → (v : ℕ) → v < n →
+          Way (edgesOf source sink delay) (at time) output bound v (at row v)
+      raised-ways row sized settled fits v l =
+          let rs = edgesOf sink source delay in
+          way ready (turned-in source sink delay same) (turned-in sink source delay (sym same)) inside (lifted-there cleared output reached there)
+          given-at row (sized ∙ given-length)
+          (subst (λ (m : ℕ). Settles m rs (at time) (at given) (at row)) given-length (settled .settles))
+          (subst (λ (m : ℕ). (f : ℕ → ℕ) → Settles m rs (at time) (at given) f → (u : ℕ) → u < m → at row u ≤ f u) given-length (settled .lowest))
+          v l fits

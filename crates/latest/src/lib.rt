@@ -8,12 +8,13 @@ ghost use Rattle.model.specs.Compute.{zeroCycle, latency};
 ghost use Rattle.records.specs.Columns.{edgesOf, zeros, at};
 ghost use Rattle.starts.specs.Starts.{FileTimes};
 ghost use Rattle.latest.specs.Latest.{earliestEnds, LatestStarts};
+use order::zero_order;
+use passes::settle_back;
 use starts::turn_starts;
 use waits::clear;
 use waits::ends_into;
-use waits::settle;
 
-// Above every end in the first turn.
+// The latest start of a task that no path leads from to the output; above every end in the first turn.
 const FAR: u32 = 1073741824;
 
 // Above every sum of the times of 64 tasks: a value from here on belongs to a task that a path leads from to the output.
@@ -59,14 +60,21 @@ pub fn earliest_ends<'a>(
     requires { ⌜ FileTimes (now time) ⌝ }
     ensures { λ _. ⌜ now (row .exit) ≡ earliestEnds (length (now (row .entry))) (edgesOf (now (source .entry)) (now (sink .entry)) (now (delay .entry))) (at (now (time .entry))) ⌝ }
 {
+    let tasks = time.len();
+    let order = zero_order(source, sink, delay, tasks);
+    let order_source = order.source;
+    let order_sink = order.sink;
     let starts = no_starts();
     let mut start = starts.start;
     let none = starts.start;
-    let tasks = time.len();
     turn_starts(
         source,
         sink,
         delay,
+        &order_source,
+        &order_sink,
+        order.count as usize,
+        order.found,
         time,
         &none[0..0],
         1,
@@ -93,10 +101,23 @@ pub fn latest_starts<'a>(
     requires { ⌜ (latency (length (now row)) (edgesOf (now source) (now sink) (now delay)) (at (now time)) output ≤ bound) × (bound < 8388608) ⌝ }
     ensures { λ _. ⌜ LatestStarts (length (now (row .entry))) (edgesOf (now (source .entry)) (now (sink .entry)) (now (delay .entry))) (at (now (time .entry))) output bound (now (row .exit)) ⌝ }
 {
+    let order = zero_order(source, sink, delay, time.len());
+    let order_source = order.source;
+    let order_sink = order.sink;
     clear(row);
     row[output] = REACHED;
     // Backwards along the edges: the time that the way to the output takes after each task.
-    settle(sink, source, delay, time, FAR, row);
+    settle_back(
+        source,
+        sink,
+        delay,
+        &order_source,
+        &order_sink,
+        order.count as usize,
+        order.found,
+        time,
+        row,
+    );
     let mut v = 0;
     while v < row.len() {
         row[v] = latest_start(row[v], time[v], bound);

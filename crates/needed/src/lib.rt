@@ -15,7 +15,6 @@ ghost use Rattle.stages.specs.Stages.{HeldStage};
 ghost use Rattle.needed.specs.Needed.{needed};
 use delays::blank_table;
 use delays::has_path;
-use delays::least_table;
 use marks::Marks;
 use marks::is_marked;
 use readings::GraphReading;
@@ -23,6 +22,7 @@ use redundancy::redundant_marks;
 use results::store;
 use stages::StageEdges;
 use stages::blank_stage;
+use tables::least_table;
 
 // Stores the edges that are not marked and do not lie on a cycle, where a path leads from the sink back to the source, at the front of
 // three lists. Gives how many.

@@ -11,7 +11,6 @@ use crate::StepAnswer;
 use candidates::best_pair;
 use candidates::zero_diagonal;
 use delays::blank_table;
-use delays::least_table;
 use latest::earliest_ends;
 use latest::latest_starts;
 use readings::GraphReading;
@@ -19,6 +18,7 @@ use results::ResultEdges;
 use results::result_edges;
 use stages::StageEdges;
 use stages::replace;
+use tables::least_table;
 
 // Two numbers for each of up to 64 tasks.
 struct TaskRows {

@@ -9,13 +9,13 @@ use crate::GraphFigures;
 use crate::Outcome;
 use crate::RedundantSet;
 use delays::blank_table;
-use delays::least_table;
 use files::Refusal;
 use marks::Marks;
 use marks::Places;
 use redundancy::redundant_marks;
 use schedule::accept;
 use starts::turns_into;
+use tables::least_table;
 
 const PASSED: Refusal = Refusal {
     number: 0,

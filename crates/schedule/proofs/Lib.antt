@@ -4,3 +4,4 @@ pub mod Chain
 pub mod Fronts
 pub mod Accepting
 pub mod Judged
+pub mod Reached

@@ -1,18 +1,23 @@
 // Refusals 9 to 12: what a schedule must have to be accepted. Every call on a graph starts from `accept`.
 ghost use mathlib.Core.Path.{_≡_};
+ghost use mathlib.Core.Bool.{true, false};
 ghost use Prim.Native.Nat.{_≤_, _<_};
 ghost use lib.ListN.{length};
 ghost use Rattle.files.specs.Refusals.{ifPassed};
-ghost use Rattle.model.specs.Compute.{inputFree, joined, latency};
-ghost use Rattle.records.specs.Columns.{edgesOf, at};
+ghost use Rattle.model.specs.Tasks.{Ends};
+ghost use Rattle.model.specs.Compute.{inputFree, joined, latency, zeroCycle};
+ghost use Rattle.records.specs.Columns.{edgesOf, zeros, at};
+ghost use Rattle.order.specs.Order.{InOrder};
 ghost use Rattle.delays.specs.Delays.{Fit};
 ghost use Rattle.starts.specs.Starts.{FileTimes};
 ghost use Rattle.schedule.specs.Schedule.{scheduleChecks, acceptance};
-use delays::least_row;
 use files::Refusal;
+use order::zero_order;
+use passes::settle_along;
 use readings::GraphReading;
 use readings::read_graph;
 use starts::has_zero_cycle;
+use starts::latency_along;
 
 // A graph file after all checks up to 12: the refusal, the latency of an accepted graph (0 if refused), and the file as read. The
 // reading's own refusal is of 1 to 8 only, so a graph that 9 to 12 refuse is still in it.
@@ -28,9 +33,10 @@ struct Checked {
     latency: u32,
 }
 
-// One row of least delays.
+// Tasks that are reached, and times of 0.
 struct Row {
-    delay: [u16; 64],
+    reached: [u32; 64],
+    time: [u16; 64],
 }
 
 const PASSED: Refusal = Refusal {
@@ -58,11 +64,14 @@ const BOUND_BELOW: Refusal = Refusal {
     place: 0,
 };
 
-// A row to write into.
+// No task reached.
 fn blank_row() -> Row
-    ensures { λ r. ⌜ length (r .delay) ≡ 64 ⌝ }
+    ensures { λ r. ⌜ (r .reached ≡ zeros 64) × (r .time ≡ zeros 64) ⌝ }
 {
-    Row { delay: [0; 64] }
+    Row {
+        reached: [0; 64],
+        time: [0; 64],
+    }
 }
 
 // Whether no edge of delay 0 leads to the latency input.
@@ -82,27 +91,69 @@ fn input_free<'a>(source: &'a [u8], sink: &'a [u8], delay: &'a [u8], input: usiz
     true
 }
 
-// Whether input and output differ and a path of delay 0 joins them.
+// Whether input and output differ and a path of delay 0 joins them: with 1 at the input and no times, what a pass along the edges of delay 0
+// raises is where such a path leads.
 fn is_joined<'a>(
     source: &'a [u8],
     sink: &'a [u8],
     delay: &'a [u8],
+    order_source: &'a [u8],
+    order_sink: &'a [u8],
+    count: usize,
+    found: bool,
     tasks: usize,
     input: usize,
     output: usize,
 ) -> bool
     requires { ⌜ (length (now sink) ≡ length (now source)) × (length (now delay) ≡ length (now source)) ⌝ }
+    requires { ⌜ (count ≤ length (now «order_source»)) × (count ≤ length (now «order_sink»)) ⌝ }
+    requires { ⌜ (found ≡ true → InOrder (edgesOf (now source) (now sink) (now delay)) (now «order_source») (now «order_sink») count) ⌝ }
     requires { ⌜ (tasks ≤ 64) × (output < tasks) ⌝ }
-    requires { ⌜ Fit tasks (edgesOf (now source) (now sink) (now delay)) ⌝ }
+    requires { ⌜ Ends tasks (edgesOf (now source) (now sink) (now delay)) ⌝ }
     ensures { λ r. ⌜ r ≡ joined tasks (edgesOf (now (source .entry)) (now (sink .entry)) (now (delay .entry))) input output ⌝ }
 {
     if input == output {
         return false;
     }
+    if tasks <= input {
+        return false;
+    }
     let blank = blank_row();
-    let mut row = blank.delay;
-    least_row(source, sink, delay, input, &mut row[0..tasks]);
-    row[output] == 0
+    let mut row = blank.reached;
+    let time = blank.time;
+    row[input] = 1;
+    settle_along(
+        source,
+        sink,
+        delay,
+        order_source,
+        order_sink,
+        count,
+        found,
+        &time[0..tasks],
+        &mut row[0..tasks],
+    );
+    row[output] != 0
+}
+
+// Whether there is a cycle of delay 0: none if an order of these edges was found, otherwise rounds tell.
+fn is_cyclic<'a>(
+    source: &'a [u8],
+    sink: &'a [u8],
+    delay: &'a [u8],
+    tasks: usize,
+    found: bool,
+) -> bool
+    requires { ⌜ (length (now sink) ≡ length (now source)) × (length (now delay) ≡ length (now source)) ⌝ }
+    requires { ⌜ tasks ≤ 64 ⌝ }
+    requires { ⌜ Ends tasks (edgesOf (now source) (now sink) (now delay)) ⌝ }
+    requires { ⌜ (found ≡ true → zeroCycle tasks (edgesOf (now source) (now sink) (now delay)) ≡ false) ⌝ }
+    ensures { λ r. ⌜ r ≡ zeroCycle tasks (edgesOf (now (source .entry)) (now (sink .entry)) (now (delay .entry))) ⌝ }
+{
+    if found {
+        return false;
+    }
+    has_zero_cycle(source, sink, delay, tasks)
 }
 
 // Checks 9 to 12.
@@ -123,7 +174,12 @@ fn check_schedule<'a>(
     ensures latency { λ r. ⌜ r .latency ≡ ifPassed (r .refusal .number) (latency (length (now (time .entry))) (edgesOf (now (source .entry)) (now (sink .entry)) (now (delay .entry))) (at (now (time .entry))) output) 0 ⌝ }
 {
     let tasks = time.len();
-    if has_zero_cycle(source, sink, delay, tasks) {
+    let order = zero_order(source, sink, delay, tasks);
+    let order_source = order.source;
+    let order_sink = order.sink;
+    let count = order.count as usize;
+    let found = order.found;
+    if is_cyclic(source, sink, delay, tasks, found) {
         return Checked {
             refusal: ZERO_CYCLE,
             latency: 0,
@@ -135,13 +191,34 @@ fn check_schedule<'a>(
             latency: 0,
         };
     }
-    if !is_joined(source, sink, delay, tasks, input, output) {
+    if !is_joined(
+        source,
+        sink,
+        delay,
+        &order_source,
+        &order_sink,
+        count,
+        found,
+        tasks,
+        input,
+        output,
+    ) {
         return Checked {
             refusal: NOT_JOINED,
             latency: 0,
         };
     }
-    let latency = starts::latency(source, sink, delay, time, output);
+    let latency = latency_along(
+        source,
+        sink,
+        delay,
+        &order_source,
+        &order_sink,
+        count,
+        found,
+        time,
+        output,
+    );
     if bound < latency {
         return Checked {
             refusal: BOUND_BELOW,

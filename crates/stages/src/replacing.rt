@@ -9,7 +9,7 @@ ghost use Rattle.model.specs.Tasks.{Edge, Ends};
 ghost use Rattle.model.specs.Plan.{withPair};
 ghost use Rattle.records.specs.Columns.{edgesOf};
 ghost use Rattle.candidates.specs.Candidates.{subsumesBy};
-ghost use Rattle.delays.specs.Rounds.{edge};
+ghost use Rattle.delays.specs.Delays.{edge};
 ghost use Rattle.results.specs.Fronts.{HeldFront};
 ghost use Rattle.stages.specs.Stages.{HeldStage};
 use crate::StageEdges;

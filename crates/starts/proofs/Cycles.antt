@@ -36,7 +36,7 @@ turn-settles {n} {es} bounds none time k h low =
     }
 
 module _ {n : ℕ} {es : List Edge} (bounds : Ends n es) {time given : ℕ → ℕ} (unit : (v : ℕ) → v < n → time v ≡ 1) where
-  settled-acyclic : {f : ℕ → ℕ} → Settles n es time given f → zeroCycle n es ≡ false
+  pub settled-acyclic : {f : ℕ → ℕ} → Settles n es time given f → zeroCycle n es ≡ false
   settled-acyclic {f} kept =
       is-false (zeroCycle n es) (not-T (zeroCycle n es) (λ t. run-acyclic bounds run ((zero-cycle-is n es bounds) .if-true t)))
     where

@@ -5,3 +5,4 @@ pub mod Cycles
 pub mod Turns
 pub mod Fronts
 pub mod Filling
+pub mod Ordered

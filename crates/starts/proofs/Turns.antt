@@ -1,6 +1,6 @@
 -- The starts of one turn, raised as little as possible over the ends of the turns before it, are the earliest: put in the place of that turn of the
 -- earliest run they give a run, so they are nowhere earlier, and being raised as little as possible they are nowhere later.
-use mathlib.Core.Path.{_≡_, refl, sym, ap, _∙_, subst}
+use mathlib.Core.Path.{_≡_, sym, ap, _∙_, subst}
 use mathlib.Core.Logic.{_⊎_, inl, inr}
 use mathlib.Core.Bool.{Bool, true, false}
 use mathlib.Core.List.{List, _++_}
@@ -9,7 +9,6 @@ use native.Mathlib.Nat.{le-refl, le-antisymm, eq-or-lt-of-le, zero-mul}
 use native.Mathlib.Omega.{arith}
 use lib.Dec.{not-T, eqb, eqb-refl, eqb→eq}
 use lib.ListN.{length, getD, getD-replicate, List·getD-append}
-use Rattle.model.specs.Lists.{tabulate}
 use Rattle.model.specs.Tasks.{Edge, _∈_, Ends}
 use Rattle.model.specs.Paths.{NoZeroCycle}
 use Rattle.model.specs.Runs.{Times, ends, Keeps, Allows, estimates}
@@ -22,7 +21,8 @@ use Rattle.records.proofs.Parts.{zeros-length, each-is}
 use Rattle.waits.specs.Waits.{Settles, Awaits}
 use Rattle.starts.specs.Starts.{turnRow, FileTimes, EndedBefore}
 use Rattle.starts.proofs.Limits.{turn-fits}
-use Rattle.starts.proofs.Raised.{WaitEnsured, SettleEnsured}
+use Rattle.passes.specs.Passes.{Bounded, Settled}
+use Rattle.starts.proofs.Raised.{WaitEnsured}
 use Rattle.starts.proofs.Cycles.{acyclic, turn-settles}
 
 oneOf : Bool → ℕ → ℕ → ℕ
@@ -162,30 +162,23 @@ module _ {n : ℕ} {es : List Edge} {time : List ℕ} (ready : Ready n es time) 
           waited-row .1 (λ u. earliest n es (estimates (at time)) u k)
           (turn-awaits (ready .bounds) no-zero-cycle (λ u i. in-file u i .0) counted before (blank-at blank))
 
-      pub waited-fits : (v : ℕ) → v < n → at waited v ≤ 1073741824
-      waited-fits v l = let low = waited-low v l in let end = end-fits v l in omega arith
+      -- the earliest starts of the turn bound what is raised from here on
+      pub waited-bounded : length waited ≡ n → Bounded es (at time) waited
+      waited-bounded long = record {
+        bound = λ v. earliest n es (estimates (at time)) v k;
+        settles = subst (λ (m : ℕ). Settles m es (at time) (at waited) (λ v. earliest n es (estimates (at time)) v k)) (sym long)
+            (turn-settles (ready .bounds) no-zero-cycle (at time) k counted waited-low);
+        low = λ v l. let end = end-fits v (subst (λ (m : ℕ). v < m) long l) in omega arith;
+      }
 
       pub turn-row :
-          {row : List ℕ} {r : Bool} → SettleEnsured (length waited) es (at time) (at waited) 1073741824 (at row) r → length waited ≡ length cleared →
-          length row ≡ length waited → row ≡ turnRow n es (at time) k
+          {row : List ℕ} → Settled es (at time) waited row → length waited ≡ n → length row ≡ length waited → row ≡ turnRow n es (at time) k
       unfolding turnRow at
-      turn-row {row} {r} settle same same-again = go r refl
-        where
-          waited-length : length waited ≡ n
-          waited-length = same ∙ blank-length
-
-          settled : SettleEnsured n es (at time) (at waited) 1073741824 (at row) r
-          settled = subst (λ (m : ℕ). SettleEnsured m es (at time) (at waited) 1073741824 (at row) r) waited-length settle
-
-          go : (b : Bool) → r ≡ b → row ≡ tabulate n (λ v. earliest n es (estimates (at time)) v k)
-          go true q =
-              each-is n (λ v. earliest n es (estimates (at time)) v k) row (same-again ∙ waited-length)
-              (turn-is (ready .bounds) no-zero-cycle (λ u i. in-file u i .0) counted before (waited-row .0) (settled .0 q) (blank-at blank) (waited-row .1)
-              (settled .1 .0))
-          go false q =
-              absurd
-              (settled .1 .1 q (λ v. earliest n es (estimates (at time)) v k)
-              (turn-settles (ready .bounds) no-zero-cycle (at time) k counted waited-low) (λ v l. let end = end-fits v l in omega arith))
+      turn-row {row} settled long same =
+          each-is n (λ v. earliest n es (estimates (at time)) v k) row (same ∙ long)
+          (turn-is (ready .bounds) no-zero-cycle (λ u i. in-file u i .0) counted before (waited-row .0)
+          (subst (λ (m : ℕ). Settles m es (at time) (at waited) (at row)) long (settled .settles)) (blank-at blank) (waited-row .1)
+          (subst (λ (m : ℕ). (f : ℕ → ℕ) → Settles m es (at time) (at waited) f → (v : ℕ) → v < m → at row v ≤ f v) long (settled .lowest)))
 
 pub row-length : (n : ℕ) (es : List Edge) (time : ℕ → ℕ) (k : ℕ) {row : List ℕ} → row ≡ turnRow n es time k → length row ≡ n
 unfolding turnRow

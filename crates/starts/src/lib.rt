@@ -1,20 +1,20 @@
 // Cycles of delay 0, latency, and the earliest starts of each turn.
 ghost use mathlib.Core.Path.{_≡_};
-ghost use mathlib.Core.Bool.{false};
+ghost use mathlib.Core.Bool.{true, false};
 ghost use mathlib.Core.List.{_++_};
 ghost use Prim.Native.Nat.{_*_, _≤_, _<_};
 ghost use lib.ListN.{length, drop, replicate};
 ghost use Rattle.model.specs.Tasks.{Ends};
 ghost use Rattle.model.specs.Compute.{zeroCycle, latency};
 ghost use Rattle.records.specs.Columns.{edgesOf, zeros, at};
+ghost use Rattle.order.specs.Order.{InOrder};
 ghost use Rattle.starts.specs.Starts.{turnRow, turnRows, FileTimes, EndedBefore};
+use order::zero_order;
+use passes::settle_along;
 use waits::await_earlier;
 use waits::clear;
 use waits::ends_into;
 use waits::settle;
-
-// Above every end of 64 turns of 64 tasks whose times are at most 65,535, with room for one time more in 32 bits.
-const FAR: u32 = 1073741824;
 
 // Times of up to 64 tasks.
 struct Times {
@@ -75,17 +75,24 @@ pub fn has_zero_cycle<'a>(source: &'a [u8], sink: &'a [u8], delay: &'a [u8], tas
     !settled
 }
 
-// The earliest starts of one turn, counted from 1, after the ends of the turns before it; whatever the row held before.
+// The earliest starts of one turn, counted from 1, after the ends of the turns before it; whatever the row held before. An order of the edges
+// of delay 0 saves rounds over them.
 pub fn turn_starts<'a>(
     source: &'a [u8],
     sink: &'a [u8],
     delay: &'a [u8],
+    order_source: &'a [u8],
+    order_sink: &'a [u8],
+    count: usize,
+    found: bool,
     time: &'a [u16],
     ended: &'a [u32],
     turn: usize,
     row: &mut [u32],
 )
     requires { ⌜ (length (now sink) ≡ length (now source)) × (length (now delay) ≡ length (now source)) ⌝ }
+    requires { ⌜ (count ≤ length (now «order_source»)) × (count ≤ length (now «order_sink»)) ⌝ }
+    requires { ⌜ (found ≡ true → InOrder (edgesOf (now source) (now sink) (now delay)) (now «order_source») (now «order_sink») count) ⌝ }
     requires { ⌜ (length (now time) ≡ length (now row)) × (length (now row) ≤ 64) ⌝ }
     requires { ⌜ (1 ≤ turn) × (turn ≤ 64) ⌝ }
     requires { ⌜ Ends (length (now row)) (edgesOf (now source) (now sink) (now delay)) ⌝ }
@@ -96,19 +103,34 @@ pub fn turn_starts<'a>(
 {
     clear(row);
     await_earlier(source, sink, delay, ended, turn, row);
-    // Never false: no start passes the limit.
-    settle(source, sink, delay, time, FAR, row);
+    settle_along(
+        source,
+        sink,
+        delay,
+        order_source,
+        order_sink,
+        count,
+        found,
+        time,
+        row,
+    );
 }
 
-// The latency of a graph without cycle of delay 0: when the output ends in the first turn.
-pub fn latency<'a>(
+// The latency of a graph without cycle of delay 0, by an order of the edges of delay 0: when the output ends in the first turn.
+pub fn latency_along<'a>(
     source: &'a [u8],
     sink: &'a [u8],
     delay: &'a [u8],
+    order_source: &'a [u8],
+    order_sink: &'a [u8],
+    count: usize,
+    found: bool,
     time: &'a [u16],
     output: usize,
 ) -> u32
     requires { ⌜ (length (now sink) ≡ length (now source)) × (length (now delay) ≡ length (now source)) ⌝ }
+    requires { ⌜ (count ≤ length (now «order_source»)) × (count ≤ length (now «order_sink»)) ⌝ }
+    requires { ⌜ (found ≡ true → InOrder (edgesOf (now source) (now sink) (now delay)) (now «order_source») (now «order_sink») count) ⌝ }
     requires { ⌜ (length (now time) ≤ 64) × (output < length (now time)) ⌝ }
     requires { ⌜ Ends (length (now time)) (edgesOf (now source) (now sink) (now delay)) ⌝ }
     requires { ⌜ zeroCycle (length (now time)) (edgesOf (now source) (now sink) (now delay)) ≡ false ⌝ }
@@ -123,12 +145,47 @@ pub fn latency<'a>(
         source,
         sink,
         delay,
+        order_source,
+        order_sink,
+        count,
+        found,
         time,
         &none[0..0],
         1,
         &mut start[0..tasks],
     );
     start[output] + time[output] as u32
+}
+
+// The latency of a graph without cycle of delay 0.
+pub fn latency<'a>(
+    source: &'a [u8],
+    sink: &'a [u8],
+    delay: &'a [u8],
+    time: &'a [u16],
+    output: usize,
+) -> u32
+    requires { ⌜ (length (now sink) ≡ length (now source)) × (length (now delay) ≡ length (now source)) ⌝ }
+    requires { ⌜ (length (now time) ≤ 64) × (output < length (now time)) ⌝ }
+    requires { ⌜ Ends (length (now time)) (edgesOf (now source) (now sink) (now delay)) ⌝ }
+    requires { ⌜ zeroCycle (length (now time)) (edgesOf (now source) (now sink) (now delay)) ≡ false ⌝ }
+    requires { ⌜ FileTimes (now time) ⌝ }
+    ensures { λ r. ⌜ r ≡ latency (length (now (time .entry))) (edgesOf (now (source .entry)) (now (sink .entry)) (now (delay .entry))) (at (now (time .entry))) output ⌝ }
+{
+    let order = zero_order(source, sink, delay, time.len());
+    let order_source = order.source;
+    let order_sink = order.sink;
+    latency_along(
+        source,
+        sink,
+        delay,
+        &order_source,
+        &order_sink,
+        order.count as usize,
+        order.found,
+        time,
+        output,
+    )
 }
 
 // The earliest starts of the first turns, turn by turn at the front of a list; elements past them keep what they held.
@@ -148,6 +205,11 @@ pub fn turns_into<'a>(
     ensures { λ _. ⌜ now (starts .exit) ≡ turnRows (length (now (time .entry))) (edgesOf (now (source .entry)) (now (sink .entry)) (now (delay .entry))) (at (now (time .entry))) turns ++ drop (length (now (time .entry)) * turns) (now (starts .entry)) ⌝ }
 {
     let tasks = time.len();
+    let order = zero_order(source, sink, delay, tasks);
+    let order_source = order.source;
+    let order_sink = order.sink;
+    let count = order.count as usize;
+    let found = order.found;
     let ends = no_ends();
     let mut end = ends.end;
     let mut at = 0;
@@ -157,6 +219,10 @@ pub fn turns_into<'a>(
             source,
             sink,
             delay,
+            &order_source,
+            &order_sink,
+            count,
+            found,
             time,
             &end[0..at],
             turn,

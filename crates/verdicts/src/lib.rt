@@ -11,11 +11,11 @@ ghost use Rattle.verdicts.specs.Verdicts.{judgement, OpenPlace, Judgeabl
 ghost use Rattle.verdicts.specs.Tables.{TableOf, FoundCyclic, lostFrom};
 use delays::blank_table;
 use delays::has_path;
-use delays::least_table;
 use files::Refusal;
 use readings::GraphReading;
 use readings::ProposalReading;
 use results::result_edges;
+use tables::least_table;
 
 // The verdict on proposed edges: the refusal, and the latency of the result if it is accepted or late, 0 otherwise.
 pub struct Judgement {

@@ -36,30 +36,45 @@ ready s =
     }
 
 abbrev start-of : tie.After-turn-starts → tie.Start
-start-of t = t .before .before .before .before .before .before .before .before .before .before .before .before
+start-of t = t .before .before .before .before .before .before .before .before .before .before .before .before .before .before .before .before .before .before
 
 abbrev starts-of : tie.Start → List ℕ
 starts-of s = turnRow (length (s .args .time .now)) (edges-of s) (at (s .args .time .now)) 1
 
 -- the first turn's starts come back, and stand at the front of the list
-row-is : (t : tie.After-turn-starts) → t .turn-starts .last .1 .1 .1 .1 .1 .1 .0 ≡ starts-of (start-of t)
+row-is : (t : tie.After-turn-starts) → t .turn-starts .last .1 .1 .1 .1 .1 .1 .1 .1 .1 .1 .0 ≡ starts-of (start-of t)
 unfolding zeros
 row-is t =
     let s = start-of t in
     t .turn-starts .ensures ∙
     ap (λ (m : ℕ). turnRow m (edges-of s) (at (s .args .time .now)) 1)
-    (front-length 64 0 (t .before .before .before .before .before .before .no-starts .ensures) (ready s .few))
+    (front-length 64 0 (t .before .before .before .before .before .before .before .before .before .no-starts .ensures) (ready s .few))
 
 row-part : (t : tie.After-turn-starts) (rest : List ℕ) →
-    take (length (start-of t .args .time .now) - 0) (t .turn-starts .last .1 .1 .1 .1 .1 .1 .0 ++ rest) ≡ starts-of (start-of t)
+    take (length (start-of t .args .time .now) - 0) (t .turn-starts .last .1 .1 .1 .1 .1 .1 .1 .1 .1 .1 .0 ++ rest) ≡ starts-of (start-of t)
 row-part t rest =
     let s = start-of t in
     let n = length (s .args .time .now) in
     let is = row-is t in
     take-at _ rest (n - 0) (row-length n (edges-of s) (at (s .args .time .now)) 1 is ∙ sym (sub-zero n)) ∙ is
 
+zero-order-requires : tie.Need-zero-order-requires
+zero-order-requires c κs =
+    let start = c .before .before .before .before .before in
+    let graph = ready start in
+    (start .pre .0, (graph .few, graph .bounds))
+
 no-starts-requires : tie.Need-no-starts-requires
 no-starts-requires c κs = search needs
+
+slice-aggregate-turn-starts : tie.Need-slice-aggregate-turn-starts
+slice-aggregate-turn-starts c = search needs
+
+slice-aggregate-turn-starts-2 : tie.Need-slice-aggregate-turn-starts-2
+slice-aggregate-turn-starts-2 c = search needs
+
+cast-turn-starts : tie.Need-cast-turn-starts
+cast-turn-starts c = search needs
 
 sub-turn-starts : tie.Need-sub-turn-starts
 sub-turn-starts c = search needs
@@ -79,24 +94,32 @@ part-start-start c = search needs
 part-start-end : tie.Need-part-start-end
 unfolding zeros
 part-start-end c =
-    let start = c .before .before .before .before .before .before .before .before .before .before in
-    front-room 64 0 (c .before .before .before .before .no-starts .ensures) (ready start .few)
+    let start = c .before .before .before .before .before .before .before .before .before .before .before .before .before .before .before .before in
+    front-room 64 0 (c .before .before .before .before .before .before .before .no-starts .ensures) (ready start .few)
 
 turn-starts-requires : tie.Need-turn-starts-requires
 unfolding zeros
 turn-starts-requires c κs =
-    let start = c .before .before .before .before .before .before .before .before .before .before .before in
+    let start = c .before .before .before .before .before .before .before .before .before .before .before .before .before .before .before .before .before in
     let graph = ready start in
     let es = edges-of start in
-    let same = sym (front-length 64 0 (c .before .before .before .before .before .no-starts .ensures) (graph .few)) in (
+    let order = c .before .before .before .before .before .before .before .before .before .before .before .zero-order .ensures in
+    let few = order .0 in
+    let same = sym (front-length 64 0 (c .before .before .before .before .before .before .before .before .no-starts .ensures) (graph .few)) in (
       start .pre .0,
       (
-        (same, subst (λ (m : ℕ). m ≤ 64) same (graph .few)),
+        (omega (arith, few .0, few .1), omega (arith, few .0, few .2)),
         (
-          (omega arith, omega arith),
+          order .1,
           (
-            subst (λ (m : ℕ). Ends m es) same (graph .bounds),
-            (subst (λ (m : ℕ). zeroCycle m es ≡ false) same (graph .none), (graph .file, none-ended _ es (at (start .args .time .now)) _)),
+            (same, subst (λ (m : ℕ). m ≤ 64) same (graph .few)),
+            (
+              (omega arith, omega arith),
+              (
+                subst (λ (m : ℕ). Ends m es) same (graph .bounds),
+                (subst (λ (m : ℕ). zeroCycle m es ≡ false) same (graph .none), (graph .file, none-ended _ es (at (start .args .time .now)) _)),
+              ),
+            ),
           ),
         ),
       ),
@@ -111,7 +134,7 @@ part-ends-into-start c = search needs
 part-ends-into-end : tie.Need-part-ends-into-end
 part-ends-into-end c =
     let start = start-of (c .before .before) in
-    let row = c .before .before .turn-starts .last .1 .1 .1 .1 .1 .1 .0 in
+    let row = c .before .before .turn-starts .last .1 .1 .1 .1 .1 .1 .1 .1 .1 .1 .0 in
     let es = edges-of start in
     let long = row-length (length (start .args .time .now)) es (at (start .args .time .now)) 1 (row-is (c .before .before)) in
     subst (λ (m : ℕ). length (start .args .time .now) ≤ m) (sym (length-append row _)) (le-trans (le-of-eq (sym long)) (le-add-right (length row) _))
@@ -149,7 +172,11 @@ pub earliest-ends-spec : {M : Type 1} → statement M
 earliest-ends-spec =
     tie.close
     (tie.spec
+    zero-order-requires
     no-starts-requires
+    slice-aggregate-turn-starts
+    slice-aggregate-turn-starts-2
+    cast-turn-starts
     sub-turn-starts
     part-turn-starts-start
     part-turn-starts-end

@@ -1,6 +1,6 @@
 -- `latest::latest_starts` meets its contract: the numbers raised backwards say which start of each task is the latest, and the loop puts it in
 -- their place.
-use mathlib.Core.Path.{sym, subst, _∙_}
+use mathlib.Core.Path.{_≡_, sym, subst, _∙_}
 use mathlib.Core.List.{List}
 use Prim.Native.Nat.{ℕ, _-_, _≤_, _<_}
 use native.Mathlib.Nat.{le-refl}
@@ -12,7 +12,7 @@ use Rattle.records.specs.Columns.{edgesOf, at}
 use Rattle.records.proofs.Parts.{zeros-room}
 use Rattle.starts.proofs.Turns.{Ready}
 use Rattle.latest.specs.Latest.{LatestStarts}
-use Rattle.latest.proofs.Backwards.{Way, turned-in, turned-ends, given-length, given-low, raised-ways}
+use Rattle.latest.proofs.Backwards.{Way, turned-in, turned-ends, given-length, given-bounded, raised-ways}
 use Rattle.latest.proofs.Steps.{Sofar, sofar-none, sofar-more, sofar-all}
 use Rattle.latest.proofs.latest_starts.Statement.{statement}
 use Rattle.latest.proofs.latest_starts.Tie as tie
@@ -25,7 +25,7 @@ abbrev μ-loop : tie.MeasureT-loop
 μ-loop source sink delay time output bound row₀ v₀ row v = length time - v
 
 abbrev start-of : tie.At-loop Inv-loop μ-loop → tie.Start Inv-loop μ-loop
-start-of l = l .before .before .before .before .before .before .before .before .before .before .before .before .before .before
+start-of l = l .before .before .before .before .before .before .before .before .before .before .before .before .before .before .before .before .before .before .before .before
 
 abbrev edges-of : tie.Start Inv-loop μ-loop → List Edge
 edges-of s = edgesOf (s .args .source .now) (s .args .sink .now) (s .args .delay .now)
@@ -35,17 +35,30 @@ ready s =
     let asked = s .pre in
     record { bounds = asked .1 .1 .0; none = asked .1 .1 .1 .0; sized = asked .1 .0 .0; file = asked .1 .1 .1 .1 .0; few = asked .1 .0 .1 }
 
--- what `settle` leaves
-raised : (r : tie.After-settle Inv-loop μ-loop) →
-    let start = r .before .before .before .before .before .before .before .before .before .before .before in
+-- how many tasks there are, which is too far back for `omega` to find
+sizes : (l : tie.At-loop Inv-loop μ-loop) →
+    let args = start-of l .args in
+    (length (args .time .now) ≡ length (args .row .now)) × (length (args .row .now) ≤ 64) × (args .output < length (args .row .now))
+sizes l = start-of l .pre .1 .0
+
+-- what `settle_back` leaves
+raised : (r : tie.After-settle-back Inv-loop μ-loop) →
+    let start = r .before .before .before .before .before .before .before .before .before .before .before .before .before .before .before .before .before in
     (v : ℕ) → v < length (start .args .row .now) →
-    Way (edges-of start) (at (start .args .time .now)) (start .args .output) (start .args .bound) v (at (r .settle .last .1 .1 .1 .1 .1 .0) v)
+    Way (edges-of start) (at (start .args .time .now)) (start .args .output) (start .args .bound) v (at (r .settle-back .last .1 .1 .1 .1 .1 .1 .1 .1 .0) v)
 raised r =
-    let start = r .before .before .before .before .before .before .before .before .before .before .before in
+    let start = r .before .before .before .before .before .before .before .before .before .before .before .before .before .before .before .before .before in
     let asked = start .pre in
     let args = start .args in
-    raised-ways (asked .1 .0 .2) (r .before .before .before .before .clear .ensures) (args .source .now) (args .sink .now) (args .delay .now) (asked .0 .0)
-    (ready start) (r .settle .last .1 .1 .1 .1 .1 .0) (r .settle .ensures .0) (r .settle .ensures .1) (asked .1 .1 .1 .1 .1 .0)
+    raised-ways (asked .1 .0 .2) (r .before .before .before .before .before .before .before .clear .ensures) (args .source .now) (args .sink .now) (args .delay .now) (asked .0 .0)
+    (ready start) (r .settle-back .last .1 .1 .1 .1 .1 .1 .1 .1 .0) (r .settle-back .ensures .0) (r .settle-back .ensures .1) (asked .1 .1 .1 .1 .1 .0)
+
+zero-order-requires : tie.Need-zero-order-requires Inv-loop μ-loop
+zero-order-requires c κs =
+    let start = c .before .before .before .before .before in
+    let graph = ready start in
+    let same = sym (graph .sized) in
+    (start .pre .0, (subst (λ (m : ℕ). m ≤ 64) same (graph .few), subst (λ (m : ℕ). Ends m (edges-of start)) same (graph .bounds)))
 
 clear-requires : tie.Need-clear-requires Inv-loop μ-loop
 clear-requires c κs = search needs
@@ -55,54 +68,62 @@ mul-row c = omega arith
 
 slice-write-row : tie.Need-slice-write-row Inv-loop μ-loop
 slice-write-row c =
-    let start = c .before .before .before .before .before .before .before .before .before in
+    let start = c .before .before .before .before .before .before .before .before .before .before .before .before in
     zeros-room (length (start .args .row .now)) (c .before .before .clear .ensures) (start .pre .1 .0 .2)
 
-settle-requires : tie.Need-settle-requires Inv-loop μ-loop
-settle-requires c κs =
-    let start = c .before .before .before .before .before .before .before .before .before .before in
+slice-aggregate-settle-back : tie.Need-slice-aggregate-settle-back Inv-loop μ-loop
+slice-aggregate-settle-back c = search needs
+
+slice-aggregate-settle-back-2 : tie.Need-slice-aggregate-settle-back-2 Inv-loop μ-loop
+slice-aggregate-settle-back-2 c = search needs
+
+cast-settle-back : tie.Need-cast-settle-back Inv-loop μ-loop
+cast-settle-back c = search needs
+
+settle-back-requires : tie.Need-settle-back-requires Inv-loop μ-loop
+settle-back-requires c κs =
+    let start = c .before .before .before .before .before .before .before .before .before .before .before .before .before .before .before .before in
     let asked = start .pre in
     let source = start .args .source .now in
     let sink = start .args .sink .now in
     let delay = start .args .delay .now in
-    let blank = c .before .before .before .clear .ensures in
+    let order = c .before .before .before .before .before .before .before .before .before .before .zero-order .ensures in
+    let few = order .0 in
+    let blank = c .before .before .before .before .before .before .clear .ensures in
     let long = given-length (asked .1 .0 .2) blank in (
-      (omega arith, omega arith),
+      asked .0,
       (
-        asked .1 .0 .0 ∙ sym long,
+        (omega (arith, few .0, few .1), omega (arith, few .0, few .2), asked .1 .0 .0 ∙ sym long),
         (
           subst (λ (m : ℕ). Ends m (edgesOf sink source delay)) (sym long)
               (turned-ends (ready start) (turned-in source sink delay (asked .0 .0)) (turned-in sink source delay (sym (asked .0 .0)))),
-          (
-            omega arith,
-            λ v l. let low = given-low (asked .1 .0 .2) blank v (subst (λ (m : ℕ). v < m) long l) in omega arith,
-          ),
+          (order .1, given-bounded (asked .1 .0 .2) blank source sink delay (asked .0 .0) (ready start)),
         ),
       ),
     )
 
 loop-holds : tie.Need-loop-holds Inv-loop μ-loop
 loop-holds c =
-    let start = c .before .before .before .before .before .before .before .before .before .before .before .before .before in
-    let settle = c .before .before .settle in
-    let row = settle .last .1 .1 .1 .1 .1 .0 in
-    let size = settle .ensures .0 ∙ given-length (start .pre .1 .0 .2) (c .before .before .before .before .before .before .clear .ensures) in (
+    let start = c .before .before .before .before .before .before .before .before .before .before .before .before .before .before .before .before .before .before .before in
+    let settled = c .before .before .settle-back in
+    let row = settled .last .1 .1 .1 .1 .1 .1 .1 .1 .0 in
+    let size = settled .ensures .0 ∙ given-length (start .pre .1 .0 .2) (c .before .before .before .before .before .before .before .before .before .clear .ensures) in (
       omega arith,
       subst (λ (m : ℕ). Sofar m (edges-of start) (at (start .args .time .now)) (start .args .output) (start .args .bound) 0 row)
           (sym (start .pre .1 .0 .0)) (sofar-none size (raised (c .before .before))),
     )
 
 mul-latest-start : tie.Need-mul-latest-start Inv-loop μ-loop
-mul-latest-start c = omega arith
+mul-latest-start c = omega (arith, sizes (c .before))
 
 slice-read-latest-start : tie.Need-slice-read-latest-start Inv-loop μ-loop
 slice-read-latest-start c = omega arith
 
 mul-latest-start-2 : tie.Need-mul-latest-start-2 Inv-loop μ-loop
-mul-latest-start-2 c = omega arith
+mul-latest-start-2 c = omega (arith, sizes (c .before .before))
 
 shared-slice-read-latest-start : tie.Need-shared-slice-read-latest-start Inv-loop μ-loop
-shared-slice-read-latest-start c = omega arith
+shared-slice-read-latest-start c = omega (arith, sizes (c .before .before .before))
 
 latest-start-requires : tie.Need-latest-start-requires Inv-loop μ-loop
 unfolding at
@@ -113,13 +134,13 @@ latest-start-requires c κs =
     (start .pre .1 .1 .1 .1 .1 .1, (loop .inv .1 .rest v (le-refl v) (omega arith)) .left)
 
 mul-row-2 : tie.Need-mul-row-2 Inv-loop μ-loop
-mul-row-2 c = omega arith
+mul-row-2 c = omega (arith, sizes (c .before .before .before .before))
 
 slice-write-row-2 : tie.Need-slice-write-row-2 Inv-loop μ-loop
 slice-write-row-2 c = omega arith
 
 add-v : tie.Need-add-v Inv-loop μ-loop
-add-v c = omega arith
+add-v c = omega (arith, sizes (c .before .before .before .before))
 
 loop-less : tie.Need-loop-less Inv-loop μ-loop
 loop-less c = omega arith
@@ -149,10 +170,14 @@ latest-starts-spec =
     (tie.spec
     Inv-loop
     μ-loop
+    zero-order-requires
     clear-requires
     mul-row
     slice-write-row
-    settle-requires
+    slice-aggregate-settle-back
+    slice-aggregate-settle-back-2
+    cast-settle-back
+    settle-back-requires
     loop-holds
     mul-latest-start
     slice-read-latest-start

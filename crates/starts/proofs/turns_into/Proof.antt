@@ -17,11 +17,17 @@ use Rattle.starts.proofs.turns_into.Statement.{statement}
 use Rattle.starts.proofs.turns_into.Tie as tie
 
 abbrev Inv-loop : tie.InvT-loop
-Inv-loop source sink delay time turns starts₀ tasks end₀ at₀ turn₀ starts end place turn =
+Inv-loop source sink delay time turns starts₀ tasks order-source order-sink count found end₀ at₀ turn₀ starts end place turn =
     Turned (length time) (edgesOf source sink delay) (at time) turns starts₀ end₀ place turn starts end
 
 abbrev μ-loop : tie.MeasureT-loop
-μ-loop source sink delay time turns starts₀ tasks end₀ at₀ turn₀ starts end place turn = turns + 1 - turn
+μ-loop source sink delay time turns starts₀ tasks order-source order-sink count found end₀ at₀ turn₀ starts end place turn = turns + 1 - turn
+
+zero-order-requires : tie.Need-zero-order-requires Inv-loop μ-loop
+zero-order-requires c κs = let asked = c .before .before .before .before .before .pre in (asked .0, (asked .1 .0 .0, asked .1 .1 .0))
+
+cast-count : tie.Need-cast-count Inv-loop μ-loop
+cast-count c = search needs
 
 no-ends-requires : tie.Need-no-ends-requires Inv-loop μ-loop
 no-ends-requires c κs = search needs
@@ -37,12 +43,18 @@ ready s =
 
 -- where the loop's test was taken, the next row has room
 room : (i : tie.In-loop Inv-loop μ-loop) →
-    Room (length (i .before .before .before .before .before .before .before .before .before .args .time .now)) (i .before .loop .at) (i .before .loop .starts) (i .before .loop .end)
+    Room (length (i .before .before .before .before .before .before .before .before .before .before .before .before .before .args .time .now)) (i .before .loop .at) (i .before .loop .starts) (i .before .loop .end)
 room i =
-    let start = i .before .before .before .before .before .before .before .before .before in
+    let start = i .before .before .before .before .before .before .before .before .before .before .before .before .before in
     let few = start .pre .1 .0 in
     let more : i .before .loop .turn ≤ start .args .turns = omega arith in
     turn-room (i .before .loop .inv) more (few .0) (few .1) (few .2) (i .before .before .before .no-ends .ensures)
+
+slice-aggregate-turn-starts : tie.Need-slice-aggregate-turn-starts Inv-loop μ-loop
+slice-aggregate-turn-starts c = search needs
+
+slice-aggregate-turn-starts-2 : tie.Need-slice-aggregate-turn-starts-2 Inv-loop μ-loop
+slice-aggregate-turn-starts-2 c = search needs
 
 sub-turn-starts : tie.Need-sub-turn-starts Inv-loop μ-loop
 sub-turn-starts c = search needs
@@ -51,13 +63,13 @@ part-turn-starts-start : tie.Need-part-turn-starts-start Inv-loop μ-loop
 part-turn-starts-start c = search needs
 
 part-turn-starts-end : tie.Need-part-turn-starts-end Inv-loop μ-loop
-part-turn-starts-end c = room (c .before) .end-from
+part-turn-starts-end c = room (c .before .before .before) .end-from
 
 add-turn-starts : tie.Need-add-turn-starts Inv-loop μ-loop
-add-turn-starts c = omega (arith, room (c .before .before) .small)
+add-turn-starts c = omega (arith, room (c .before .before .before .before) .small)
 
 mul-turn-starts : tie.Need-mul-turn-starts Inv-loop μ-loop
-mul-turn-starts c = omega (arith, room (c .before .before) .small)
+mul-turn-starts c = omega (arith, room (c .before .before .before .before) .small)
 
 sub-turn-starts-2 : tie.Need-sub-turn-starts-2 Inv-loop μ-loop
 sub-turn-starts-2 c = search needs
@@ -66,25 +78,32 @@ part-turn-starts-start-2 : tie.Need-part-turn-starts-start-2 Inv-loop μ-loop
 part-turn-starts-start-2 c = search needs
 
 part-turn-starts-end-2 : tie.Need-part-turn-starts-end-2 Inv-loop μ-loop
-part-turn-starts-end-2 c = room (c .before .before) .starts-to
+part-turn-starts-end-2 c = room (c .before .before .before .before) .starts-to
 
 turn-starts-requires : tie.Need-turn-starts-requires Inv-loop μ-loop
 turn-starts-requires c κs =
-    let i = c .before .before .before in
+    let i = c .before .before .before .before .before in
     let loop = i .before .loop in
-    let start = i .before .before .before .before .before .before .before .before .before in
+    let start = i .before .before .before .before .before .before .before .before .before .before .before .before .before in
     let asked = start .pre in
     let es = edgesOf (start .args .source .now) (start .args .sink .now) (start .args .delay .now) in
     let time = start .args .time .now in
+    let few = i .before .before .before .before .before .before .before .zero-order .ensures .0 in
     let same = sym (part-length (loop .at) (length time) (loop .starts) (room i .starts-to)) in (
       asked .0,
       (
-        (same, subst (λ (m : ℕ). m ≤ 64) same (asked .1 .0 .0)),
+        (omega (arith, few .0, few .1), omega (arith, few .0, few .2)),
         (
-          (omega arith, omega arith),
+          i .before .before .before .before .before .before .before .zero-order .ensures .1,
           (
-            subst (λ (m : ℕ). Ends m es) same (asked .1 .1 .0),
-            (subst (λ (m : ℕ). zeroCycle m es ≡ false) same (asked .1 .1 .1 .0), (asked .1 .1 .1 .1, ended-before (loop .inv) same (omega arith))),
+            (same, subst (λ (m : ℕ). m ≤ 64) same (asked .1 .0 .0)),
+            (
+              (omega arith, omega arith),
+              (
+                subst (λ (m : ℕ). Ends m es) same (asked .1 .1 .0),
+                (subst (λ (m : ℕ). zeroCycle m es ≡ false) same (asked .1 .1 .1 .0), (asked .1 .1 .1 .1, ended-before (loop .inv) same (omega arith))),
+              ),
+            ),
           ),
         ),
       ),
@@ -92,14 +111,14 @@ turn-starts-requires c κs =
 
 -- the row that came back, and the same row as a part of the whole
 row-is : (t : tie.After-turn-starts Inv-loop μ-loop) →
-    let i = t .before .before .before .before in
-    let start = i .before .before .before .before .before .before .before .before .before in
-    t .turn-starts .last .1 .1 .1 .1 .1 .1 .0 ≡
+    let i = t .before .before .before .before .before .before in
+    let start = i .before .before .before .before .before .before .before .before .before .before .before .before .before in
+    t .turn-starts .last .1 .1 .1 .1 .1 .1 .1 .1 .1 .1 .0 ≡
     turnRow (length (start .args .time .now)) (edgesOf (start .args .source .now) (start .args .sink .now) (start .args .delay .now))
     (at (start .args .time .now)) (i .before .loop .turn)
 row-is t =
-    let i = t .before .before .before .before in
-    let start = i .before .before .before .before .before .before .before .before .before in
+    let i = t .before .before .before .before .before .before in
+    let start = i .before .before .before .before .before .before .before .before .before .before .before .before .before in
     let loop = i .before .loop in
     t .turn-starts .ensures ∙
     ap
@@ -108,27 +127,27 @@ row-is t =
     (part-length (loop .at) (length (start .args .time .now)) (loop .starts) (room i .starts-to))
 
 row-back : (t : tie.After-turn-starts Inv-loop μ-loop) →
-    let i = t .before .before .before .before in
-    let start = i .before .before .before .before .before .before .before .before .before in
+    let i = t .before .before .before .before .before .before in
+    let start = i .before .before .before .before .before .before .before .before .before .before .before .before .before in
     let n = length (start .args .time .now) in
     let place = i .before .loop .at in
-    midOf place (place + n - place) (putMid place (place + n - place) (i .before .loop .starts) (t .turn-starts .last .1 .1 .1 .1 .1 .1 .0)) ≡
+    midOf place (place + n - place) (putMid place (place + n - place) (i .before .loop .starts) (t .turn-starts .last .1 .1 .1 .1 .1 .1 .1 .1 .1 .1 .0)) ≡
     turnRow n (edgesOf (start .args .source .now) (start .args .sink .now) (start .args .delay .now)) (at (start .args .time .now)) (i .before .loop .turn)
 row-back t =
-    let i = t .before .before .before .before in
-    let start = i .before .before .before .before .before .before .before .before .before in
+    let i = t .before .before .before .before .before .before in
+    let start = i .before .before .before .before .before .before .before .before .before .before .before .before .before in
     let place = i .before .loop .at in
     let n = length (start .args .time .now) in
     let es = edgesOf (start .args .source .now) (start .args .sink .now) (start .args .delay .now) in
-    mid-put place n (i .before .loop .starts) (t .turn-starts .last .1 .1 .1 .1 .1 .1 .0) (le-trans (le-add-right place n) (room i .starts-to))
+    mid-put place n (i .before .loop .starts) (t .turn-starts .last .1 .1 .1 .1 .1 .1 .1 .1 .1 .1 .0) (le-trans (le-add-right place n) (room i .starts-to))
     (row-length n es (at (start .args .time .now)) (i .before .loop .turn) (row-is t)) ∙
     row-is t
 
 add-ends-into : tie.Need-add-ends-into Inv-loop μ-loop
-add-ends-into c = omega (arith, room (c .before .before .before .before .before .before) .small)
+add-ends-into c = omega (arith, room (c .before .before .before .before .before .before .before .before) .small)
 
 mul-ends-into : tie.Need-mul-ends-into Inv-loop μ-loop
-mul-ends-into c = omega (arith, room (c .before .before .before .before .before .before) .small)
+mul-ends-into c = omega (arith, room (c .before .before .before .before .before .before .before .before) .small)
 
 sub-ends-into : tie.Need-sub-ends-into Inv-loop μ-loop
 sub-ends-into c = search needs
@@ -139,21 +158,21 @@ part-ends-into-start c = search needs
 part-ends-into-end : tie.Need-part-ends-into-end Inv-loop μ-loop
 part-ends-into-end c =
     let t = c .before .before .before in
-    let i = t .before .before .before .before in
-    let start = i .before .before .before .before .before .before .before .before .before in
+    let i = t .before .before .before .before .before .before in
+    let start = i .before .before .before .before .before .before .before .before .before .before .before .before .before in
     let n = length (start .args .time .now) in
     let es = edgesOf (start .args .source .now) (start .args .sink .now) (start .args .delay .now) in
     subst (λ (m : ℕ). i .before .loop .at + n ≤ m)
     (sym
-    (put-length (i .before .loop .at) n (i .before .loop .starts) (t .turn-starts .last .1 .1 .1 .1 .1 .1 .0) (room i .starts-to)
+    (put-length (i .before .loop .at) n (i .before .loop .starts) (t .turn-starts .last .1 .1 .1 .1 .1 .1 .1 .1 .1 .1 .0) (room i .starts-to)
     (row-length n es (at (start .args .time .now)) (i .before .loop .turn) (row-is t))))
     (room i .starts-to)
 
 add-ends-into-2 : tie.Need-add-ends-into-2 Inv-loop μ-loop
-add-ends-into-2 c = omega (arith, room (c .before .before .before .before .before .before .before .before) .small)
+add-ends-into-2 c = omega (arith, room (c .before .before .before .before .before .before .before .before .before .before) .small)
 
 mul-end : tie.Need-mul-end Inv-loop μ-loop
-mul-end c = omega (arith, room (c .before .before .before .before .before .before .before .before) .small)
+mul-end c = omega (arith, room (c .before .before .before .before .before .before .before .before .before .before) .small)
 
 sub-ends-into-2 : tie.Need-sub-ends-into-2 Inv-loop μ-loop
 sub-ends-into-2 c = search needs
@@ -162,13 +181,13 @@ part-end-start : tie.Need-part-end-start Inv-loop μ-loop
 part-end-start c = search needs
 
 part-end-end : tie.Need-part-end-end Inv-loop μ-loop
-part-end-end c = room (c .before .before .before .before .before .before .before .before) .end-to
+part-end-end c = room (c .before .before .before .before .before .before .before .before .before .before) .end-to
 
 ends-into-requires : tie.Need-ends-into-requires Inv-loop μ-loop
 ends-into-requires c κs =
     let t = c .before .before .before .before .before in
-    let i = t .before .before .before .before in
-    let start = i .before .before .before .before .before .before .before .before .before in
+    let i = t .before .before .before .before .before .before in
+    let start = i .before .before .before .before .before .before .before .before .before .before .before .before .before in
     let loop = i .before .loop in
     let es = edgesOf (start .args .source .now) (start .args .sink .now) (start .args .delay .now) in
     let time = start .args .time .now in
@@ -182,10 +201,10 @@ ends-into-requires c κs =
     )
 
 add-at : tie.Need-add-at Inv-loop μ-loop
-add-at c = omega (arith, room (c .before .before .before .before .before .before .before .before .before .before .before) .small)
+add-at c = omega (arith, room (c .before .before .before .before .before .before .before .before .before .before .before .before .before) .small)
 
 add-turn : tie.Need-add-turn Inv-loop μ-loop
-add-turn c = omega arith
+add-turn c = omega (arith, c .before .before .before .before .before .before .before .before .before .before .before .before .before .before .before .before .before .before .before .before .before .before .before .before .before .before .pre .1 .0 .1, c .before .before .before .before .before .before .before .before .before .before .before .before .before .loop-test .taken)
 
 loop-less : tie.Need-loop-less Inv-loop μ-loop
 loop-less c = omega arith
@@ -193,8 +212,8 @@ loop-less c = omega arith
 loop-again : tie.Need-loop-again Inv-loop μ-loop
 loop-again c =
     let t = c .before .before .before .before .before .before .before in
-    let i = t .before .before .before .before in
-    let start = i .before .before .before .before .before .before .before .before .before in
+    let i = t .before .before .before .before .before .before in
+    let start = i .before .before .before .before .before .before .before .before .before .before .before .before .before in
     let es = edgesOf (start .args .source .now) (start .args .sink .now) (start .args .delay .now) in
     let time = start .args .time .now in
     let more : i .before .loop .turn ≤ start .args .turns = omega arith in
@@ -213,8 +232,12 @@ turns-into-spec =
     (tie.spec
     Inv-loop
     μ-loop
+    zero-order-requires
+    cast-count
     no-ends-requires
     loop-holds
+    slice-aggregate-turn-starts
+    slice-aggregate-turn-starts-2
     sub-turn-starts
     part-turn-starts-start
     part-turn-starts-end

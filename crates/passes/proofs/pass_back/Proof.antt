@@ -1,0 +1,147 @@
+-- `passes::pass_back` meets its contract: as along the order, but from its end, where the last edges are kept already.
+use mathlib.Core.Path.{_≡_, refl, sym, _∙_}
+use mathlib.Core.Logic.{_⊎_, inl, inr}
+use mathlib.Core.List.{List}
+use Prim.Native.Nat.{ℕ, _+_, _-_, _≤_, _<_}
+use native.Mathlib.Nat.{le-refl}
+use native.Mathlib.Omega.{arith}
+use borrow.Author.Needs.{needs}
+use lib.ListN.{length, getD, length-set}
+use Rattle.model.specs.Tasks.{Edge}
+use Rattle.model.proofs.Basics.{order}
+use Rattle.records.specs.Columns.{at}
+use Rattle.passes.specs.Passes.{Passable, BackOrder}
+use Rattle.passes.proofs.Passing.{Passed, passed-none, passed-more, passable-more, sum-fits, passed-all}
+use Rattle.passes.proofs.pass_back.Statement.{statement}
+use Rattle.passes.proofs.pass_back.Tie as tie
+
+abbrev Inv-loop : tie.InvT-loop
+Inv-loop source sink count time row₀ k₀ row k =
+    (k ≤ count) × (length row ≡ length row₀) × Passable sink source count time row ×
+    ((es : List Edge) → BackOrder es source sink count → Passed es (at time) sink source (λ i. (k ≤ i) × (i < count)) row₀ row)
+
+abbrev μ-loop : tie.MeasureT-loop
+μ-loop source sink count time row₀ k₀ row k = k
+
+later-ones : {source sink : List ℕ} {es : List Edge} {count k j : ℕ} → BackOrder es source sink count → k ≡ j + 1 → (i : ℕ) → (j ≤ i) × (i < count)
+    → (((k ≤ i) × (i < count)) × (getD source j 0 ≡ getD sink i 0 → ⊥)) ⊎ (i ≡ j)
+later-ones {source} {sink} {count = count} {k = k} {j = j} listed is i place = go (order k i)
+  where
+    go : (k ≤ i) ⊎ (i < k) → (((k ≤ i) × (i < count)) × (getD source j 0 ≡ getD sink i 0 → ⊥)) ⊎ (i ≡ j)
+    go (inl m) = inl ((m, place .1), λ q. listed .ahead j i (place .0) (place .1) (sym q))
+    go (inr m) = let l = place .0 in inr (omega arith)
+
+loop-holds : tie.Need-loop-holds Inv-loop μ-loop
+loop-holds c =
+    let start = c .before .before .before .before in
+    (omega arith, refl, start .pre .1 .1, λ es listed. passed-none es (at (start .args .time .now)) (start .args .sink .now) (start .args .source .now) (λ i. (start .args .count ≤ i) × (i < start .args .count)) (start .args .row .now) (λ i l. let a = l .0 in let b = l .1 in omega arith))
+
+sub-k : tie.Need-sub-k Inv-loop μ-loop
+sub-k c = omega (arith, c .loop-test .taken)
+
+shared-slice-read-s : tie.Need-shared-slice-read-s Inv-loop μ-loop
+shared-slice-read-s c = omega (arith, c .before .before .loop .inv .0, c .before .before .loop .inv .1, c .before .loop-test .taken, c .before .before .before .before .before .before .before .pre .0 .0, c .before .before .before .before .before .before .before .pre .0 .1, c .before .before .before .before .before .before .before .pre .0 .2, c .before .before .before .before .before .before .before .pre .1 .0 (c .before .before .loop .k - 1) (omega (arith, c .before .before .loop .inv .0, c .before .loop-test .taken)) .0, c .before .before .before .before .before .before .before .pre .1 .0 (c .before .before .loop .k - 1) (omega (arith, c .before .before .loop .inv .0, c .before .loop-test .taken)) .1)
+
+cast-s : tie.Need-cast-s Inv-loop μ-loop
+cast-s c = omega (arith, c .shared-slice-known4 .given (c .before .before .loop .k - 1))
+
+shared-slice-read-t : tie.Need-shared-slice-read-t Inv-loop μ-loop
+shared-slice-read-t c = omega (arith, c .before .before .before .loop .inv .0, c .before .before .before .loop .inv .1, c .before .before .loop-test .taken, c .before .before .before .before .before .before .before .before .pre .0 .0, c .before .before .before .before .before .before .before .before .pre .0 .1, c .before .before .before .before .before .before .before .before .pre .0 .2, c .before .before .before .before .before .before .before .before .pre .1 .0 (c .before .before .before .loop .k - 1) (omega (arith, c .before .before .before .loop .inv .0, c .before .before .loop-test .taken)) .0, c .before .before .before .before .before .before .before .before .pre .1 .0 (c .before .before .before .loop .k - 1) (omega (arith, c .before .before .before .loop .inv .0, c .before .before .loop-test .taken)) .1)
+
+cast-t : tie.Need-cast-t Inv-loop μ-loop
+cast-t c = omega (arith, c .shared-slice-known5 .given (c .before .before .before .loop .k - 1))
+
+mul-later : tie.Need-mul-later Inv-loop μ-loop
+mul-later c = omega (arith, c .before .before .before .loop .inv .0, c .before .before .before .loop .inv .1, c .before .before .loop-test .taken, c .before .before .before .before .before .before .before .before .pre .0 .0, c .before .before .before .before .before .before .before .before .pre .0 .1, c .before .before .before .before .before .before .before .before .pre .0 .2, c .before .before .before .before .before .before .before .before .pre .1 .0 (c .before .before .before .loop .k - 1) (omega (arith, c .before .before .before .loop .inv .0, c .before .before .loop-test .taken)) .0, c .before .before .before .before .before .before .before .before .pre .1 .0 (c .before .before .before .loop .k - 1) (omega (arith, c .before .before .before .loop .inv .0, c .before .before .loop-test .taken)) .1)
+
+slice-read-later : tie.Need-slice-read-later Inv-loop μ-loop
+slice-read-later c = omega (arith, c .before .before .before .before .loop .inv .0, c .before .before .before .before .loop .inv .1, c .before .before .before .loop-test .taken, c .before .before .before .before .before .before .before .before .before .pre .0 .0, c .before .before .before .before .before .before .before .before .before .pre .0 .1, c .before .before .before .before .before .before .before .before .before .pre .0 .2, c .before .before .before .before .before .before .before .before .before .pre .1 .0 (c .before .before .before .before .loop .k - 1) (omega (arith, c .before .before .before .before .loop .inv .0, c .before .before .before .loop-test .taken)) .0, c .before .before .before .before .before .before .before .before .before .pre .1 .0 (c .before .before .before .before .loop .k - 1) (omega (arith, c .before .before .before .before .loop .inv .0, c .before .before .before .loop-test .taken)) .1)
+
+mul-later-2 : tie.Need-mul-later-2 Inv-loop μ-loop
+mul-later-2 c = omega (arith, c .before .before .before .before .loop .inv .0, c .before .before .before .before .loop .inv .1, c .before .before .before .loop-test .taken, c .before .before .before .before .before .before .before .before .before .pre .0 .0, c .before .before .before .before .before .before .before .before .before .pre .0 .1, c .before .before .before .before .before .before .before .before .before .pre .0 .2, c .before .before .before .before .before .before .before .before .before .pre .1 .0 (c .before .before .before .before .loop .k - 1) (omega (arith, c .before .before .before .before .loop .inv .0, c .before .before .before .loop-test .taken)) .0, c .before .before .before .before .before .before .before .before .before .pre .1 .0 (c .before .before .before .before .loop .k - 1) (omega (arith, c .before .before .before .before .loop .inv .0, c .before .before .before .loop-test .taken)) .1)
+
+slice-read-later-2 : tie.Need-slice-read-later-2 Inv-loop μ-loop
+slice-read-later-2 c = omega (arith, c .before .before .before .before .before .loop .inv .0, c .before .before .before .before .before .loop .inv .1, c .before .before .before .before .loop-test .taken, c .before .before .before .before .before .before .before .before .before .before .pre .0 .0, c .before .before .before .before .before .before .before .before .before .before .pre .0 .1, c .before .before .before .before .before .before .before .before .before .before .pre .0 .2, c .before .before .before .before .before .before .before .before .before .before .pre .1 .0 (c .before .before .before .before .before .loop .k - 1) (omega (arith, c .before .before .before .before .before .loop .inv .0, c .before .before .before .before .loop-test .taken)) .0, c .before .before .before .before .before .before .before .before .before .before .pre .1 .0 (c .before .before .before .before .before .loop .k - 1) (omega (arith, c .before .before .before .before .before .loop .inv .0, c .before .before .before .before .loop-test .taken)) .1)
+
+mul-later-3 : tie.Need-mul-later-3 Inv-loop μ-loop
+mul-later-3 c = omega (arith, c .before .before .before .before .before .loop .inv .0, c .before .before .before .before .before .loop .inv .1, c .before .before .before .before .loop-test .taken, c .before .before .before .before .before .before .before .before .before .before .pre .0 .0, c .before .before .before .before .before .before .before .before .before .before .pre .0 .1, c .before .before .before .before .before .before .before .before .before .before .pre .0 .2, c .before .before .before .before .before .before .before .before .before .before .pre .1 .0 (c .before .before .before .before .before .loop .k - 1) (omega (arith, c .before .before .before .before .before .loop .inv .0, c .before .before .before .before .loop-test .taken)) .0, c .before .before .before .before .before .before .before .before .before .before .pre .1 .0 (c .before .before .before .before .before .loop .k - 1) (omega (arith, c .before .before .before .before .before .loop .inv .0, c .before .before .before .before .loop-test .taken)) .1)
+
+shared-slice-read-later : tie.Need-shared-slice-read-later Inv-loop μ-loop
+shared-slice-read-later c = omega (arith, c .before .before .before .before .before .before .loop .inv .0, c .before .before .before .before .before .before .loop .inv .1, c .before .before .before .before .before .loop-test .taken, c .before .before .before .before .before .before .before .before .before .before .before .pre .0 .0, c .before .before .before .before .before .before .before .before .before .before .before .pre .0 .1, c .before .before .before .before .before .before .before .before .before .before .before .pre .0 .2, c .before .before .before .before .before .before .before .before .before .before .before .pre .1 .0 (c .before .before .before .before .before .before .loop .k - 1) (omega (arith, c .before .before .before .before .before .before .loop .inv .0, c .before .before .before .before .before .loop-test .taken)) .0, c .before .before .before .before .before .before .before .before .before .before .before .pre .1 .0 (c .before .before .before .before .before .before .loop .k - 1) (omega (arith, c .before .before .before .before .before .before .loop .inv .0, c .before .before .before .before .before .loop-test .taken)) .1)
+
+cast-later : tie.Need-cast-later Inv-loop μ-loop
+cast-later c = omega (arith, c .shared-slice-known6 .given (getD (c .before .before .before .before .before .before .before .before .before .before .before .args .sink .now) (c .before .before .before .before .before .before .loop .k - 1) 0))
+
+add-later : tie.Need-add-later Inv-loop μ-loop
+unfolding at
+add-later c =
+    let start = c .before .before .before .before .before .before .before .before .before .before .before in
+    let inv = c .before .before .before .before .before .before .loop .inv in
+    let inside : c .before .before .before .before .before .before .loop .k - 1 < start .args .count = omega (arith, inv .0, c .before .before .before .before .before .loop-test .taken) in
+    let ends = start .pre .1 .0 (c .before .before .before .before .before .before .loop .k - 1) inside in
+    omega (arith, sum-fits (c .before .before .before .before .before .before .loop .k - 1) (inv .2) inside (omega (arith, ends .1, inv .1)) (omega (arith, ends .0, inv .1)))
+
+later-requires : tie.Need-later-requires Inv-loop μ-loop
+later-requires c κs = search needs
+
+mul-row : tie.Need-mul-row Inv-loop μ-loop
+mul-row c = omega (arith, c .before .before .before .before .before .before .before .loop .inv .0, c .before .before .before .before .before .before .before .loop .inv .1, c .before .before .before .before .before .before .loop-test .taken, c .before .before .before .before .before .before .before .before .before .before .before .before .pre .0 .0, c .before .before .before .before .before .before .before .before .before .before .before .before .pre .0 .1, c .before .before .before .before .before .before .before .before .before .before .before .before .pre .0 .2, c .before .before .before .before .before .before .before .before .before .before .before .before .pre .1 .0 (c .before .before .before .before .before .before .before .loop .k - 1) (omega (arith, c .before .before .before .before .before .before .before .loop .inv .0, c .before .before .before .before .before .before .loop-test .taken)) .0, c .before .before .before .before .before .before .before .before .before .before .before .before .pre .1 .0 (c .before .before .before .before .before .before .before .loop .k - 1) (omega (arith, c .before .before .before .before .before .before .before .loop .inv .0, c .before .before .before .before .before .before .loop-test .taken)) .1)
+
+slice-write-row : tie.Need-slice-write-row Inv-loop μ-loop
+slice-write-row c = omega (arith, c .before .before .before .before .before .before .before .loop .inv .0, c .before .before .before .before .before .before .before .loop .inv .1, c .before .before .before .before .before .before .loop-test .taken, c .before .before .before .before .before .before .before .before .before .before .before .before .pre .0 .0, c .before .before .before .before .before .before .before .before .before .before .before .before .pre .0 .1, c .before .before .before .before .before .before .before .before .before .before .before .before .pre .0 .2, c .before .before .before .before .before .before .before .before .before .before .before .before .pre .1 .0 (c .before .before .before .before .before .before .before .loop .k - 1) (omega (arith, c .before .before .before .before .before .before .before .loop .inv .0, c .before .before .before .before .before .before .loop-test .taken)) .0, c .before .before .before .before .before .before .before .before .before .before .before .before .pre .1 .0 (c .before .before .before .before .before .before .before .loop .k - 1) (omega (arith, c .before .before .before .before .before .before .before .loop .inv .0, c .before .before .before .before .before .before .loop-test .taken)) .1)
+
+loop-less : tie.Need-loop-less Inv-loop μ-loop
+loop-less c = omega (arith, c .before .before .before .before .before .before .loop-test .taken)
+
+loop-again : tie.Need-loop-again Inv-loop μ-loop
+unfolding at
+loop-again c =
+    let start = c .before .before .before .before .before .before .before .before .before .before .before .before in
+    let inv = c .before .before .before .before .before .before .before .loop .inv in
+    let k = c .before .before .before .before .before .before .before .loop .k in
+    let inside : k - 1 < start .args .count = omega (arith, inv .0, c .before .before .before .before .before .before .loop-test .taken) in
+    let is : k ≡ k - 1 + 1 = omega (arith, c .before .before .before .before .before .before .loop-test .taken) in
+    let ends = start .pre .1 .0 (k - 1) inside in
+    let from : getD (start .args .sink .now) (k - 1) 0 < length (c .before .before .before .before .before .before .before .loop .row) = omega (arith, ends .1, inv .1) in
+    let to : getD (start .args .source .now) (k - 1) 0 < length (c .before .before .before .before .before .before .before .loop .row) = omega (arith, ends .0, inv .1) in (
+      omega (arith, inv .0),
+      length-set (c .before .before .before .before .before .before .before .loop .row) (getD (start .args .source .now) (k - 1) 0) (c .later .result) ∙ inv .1,
+      passable-more (k - 1) (c .later .result) (inv .2) inside from to (c .later .ensures),
+      λ es listed. passed-more (start .args .sink .now) (start .args .source .now) (c .before .before .before .before .before .before .before .loop .row) (k - 1) from to (at (start .args .time .now)) (c .later .ensures) (inv .1) (inv .3 es listed) (listed .sound (k - 1) inside) (later-ones listed is) (λ q. listed .ahead (k - 1) (k - 1) (le-refl (k - 1)) inside (sym q)),
+    )
+
+same-length : tie.Need-same-length Inv-loop μ-loop
+same-length c = c .before .loop .inv .1
+
+returns : tie.Need-returns Inv-loop μ-loop
+returns c =
+    let inv = c .before .loop .inv in
+    (inv .1, λ es listed. passed-all (inv .3 es listed) (λ i l. (omega arith, l)) (listed .whole))
+
+pub pass-back-spec : {M : Type 1} → statement M
+pass-back-spec =
+    tie.close
+    (tie.spec
+    Inv-loop
+    μ-loop
+    loop-holds
+    sub-k
+    shared-slice-read-s
+    cast-s
+    shared-slice-read-t
+    cast-t
+    mul-later
+    slice-read-later
+    mul-later-2
+    slice-read-later-2
+    mul-later-3
+    shared-slice-read-later
+    cast-later
+    add-later
+    later-requires
+    mul-row
+    slice-write-row
+    loop-less
+    loop-again
+    same-length
+    returns)
