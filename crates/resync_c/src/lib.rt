@@ -1,37 +1,15 @@
-// The calls for C and Rust. Each hands on to the call of its name in `resync`, or in `readings`, and promises the same.
+// The calls for C and Rust, as include/resync.h declares them. Each hands on to the call of its name in `resync`, and promises the same.
 ghost use mathlib.Core.Path.{_≡_};
 ghost use lib.ListN.{length};
-ghost use Rattle.readings.specs.Working.{graphReading, proposalReading};
-ghost use Rattle.marks.specs.Marks.{markAt, placesOf};
 ghost use Rattle.resync.specs.Calls.{outcome, figuresOf, delaysRefusal, delaysAfter, redundantOf, timetableRefusal, timetableAfter};
 ghost use Rattle.resync.specs.Verdict.{VerdictAnswer};
 ghost use Rattle.resync.specs.Plan.{planAnswerOf, planAfter};
 use layout::EdgeRecord;
-use marks::Marks;
-use marks::Places;
-use readings::GraphReading;
-use readings::ProposalReading;
 use resync::GraphFigures;
 use resync::Outcome;
 use resync::PlanAnswer;
 use resync::ProposalVerdict;
 use resync::RedundantSet;
-
-// Which graph a file is, or which refusal of 1 to 8 it gets.
-#[no_mangle]
-pub extern "C" fn resync_read_graph(file: &[u8]) -> GraphReading
-    ensures { λ r. ⌜ r ≡ graphReading (now (file .entry)) ⌝ }
-{
-    readings::read_graph(file)
-}
-
-// Which edges a file proposes beside a graph of so many tasks, or which refusal of 1 to 8 it gets.
-#[no_mangle]
-pub extern "C" fn resync_read_proposal(file: &[u8], tasks: usize) -> ProposalReading
-    ensures { λ r. ⌜ r ≡ proposalReading tasks (now (file .entry)) ⌝ }
-{
-    readings::read_proposal(file, tasks)
-}
 
 // Tasks, edges and latency of a graph.
 #[no_mangle]
@@ -58,21 +36,13 @@ pub extern "C" fn resync_redundant(graph: &[u8]) -> RedundantSet
     resync::redundant(graph)
 }
 
-// The places of marks that are set, counted from 1, ascending.
-#[no_mangle]
-pub extern "C" fn resync_places(marks: Marks) -> Places
-    ensures { λ r. ⌜ r ≡ placesOf (markAt marks) ⌝ }
-{
-    resync::places(marks)
-}
-
 // The earliest starts at the estimated times in turns 1 to `turns`, turn by turn at the front of the list, tasks in order.
 #[no_mangle]
-pub extern "C" fn resync_timetable(graph: &[u8], turns: usize, starts: &mut [u32]) -> Outcome
+pub extern "C" fn resync_timetable(graph: &[u8], turns: u64, starts: &mut [u32]) -> Outcome
     ensures outcome { λ r. ⌜ r ≡ outcome (timetableRefusal (now (graph .entry)) turns (length (now (starts .entry)))) ⌝ }
     ensures starts { λ _. ⌜ now (starts .exit) ≡ timetableAfter (now (graph .entry)) turns (now (starts .entry)) ⌝ }
 {
-    resync::timetable(graph, turns, starts)
+    resync::timetable(graph, turns as usize, starts)
 }
 
 // Whether a proposal is accepted beside a graph, with the latency of its result and its margin, or why not.
