@@ -3,10 +3,10 @@
 // so the proof need not know how it was found.
 ghost use mathlib.Core.Path.{_≡_};
 ghost use mathlib.Core.Bool.{true};
-ghost use Prim.Native.Nat.{ℕ, _+_, _≤_, _<_};
+ghost use Prim.Native.Nat.{ℕ, _≤_, _<_};
 ghost use lib.ListN.{length, getD, replicate};
 ghost use Rattle.model.specs.Tasks.{Ends};
-ghost use Rattle.records.specs.Columns.{edgesOf, at};
+ghost use Rattle.records.specs.Columns.{edgesOf};
 ghost use Rattle.order.specs.Order.{InOrder};
 ghost use Rattle.order.specs.Listing.{ZeroEdges, Onward, Laid, Small};
 
@@ -45,6 +45,7 @@ struct Progress {
     sound: bool,
 }
 
+// Lists to write into.
 fn blank_ends() -> EdgeEnds
     ensures { λ r. ⌜ (length (r .source) ≡ 576) × (length (r .sink) ≡ 576) ⌝ }
 {
@@ -54,6 +55,7 @@ fn blank_ends() -> EdgeEnds
     }
 }
 
+// No edge chained, counted or listed, and no task passed.
 fn blank_work() -> Work
     ensures { λ r. ⌜ (length (r .next) ≡ 576) × (r .first ≡ replicate 64 576) × (length (r .waiting) ≡ 64) × (r .queue ≡ replicate 65 0) × (length (r .passed) ≡ 64) × (r .listed ≡ replicate 576 0) ⌝ }
 {

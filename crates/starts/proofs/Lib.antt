@@ -6,3 +6,4 @@ pub mod Turns
 pub mod Fronts
 pub mod Filling
 pub mod Ordered
+pub mod Later

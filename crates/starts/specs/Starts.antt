@@ -5,7 +5,7 @@ use mathlib.Core.List.{List}
 use Prim.Native.Nat.{ℕ, suc, _+_, _-_, _*_, _≤_, _<_}
 use lib.ListN.{length, getD}
 use Rattle.model.specs.Lists.{tabulate}
-use Rattle.model.specs.Tasks.{Edge}
+use Rattle.model.specs.Tasks.{Edge, _∈_}
 use Rattle.model.specs.Runs.{ends, estimates}
 use Rattle.model.specs.Compute.{earliest}
 use Rattle.records.specs.Columns.{rows, at}
@@ -30,3 +30,8 @@ pub record EndedBefore (n : ℕ) (es : List Edge) (time : ℕ → ℕ) (turn : �
   pub same :
       (v k : ℕ) → v < n → 1 ≤ k → k < turn →
       getD ended ((k - 1) * n + v) 0 ≡ ends (earliest n es (estimates time)) (estimates time) v k
+
+-- Edges of a graph, and all of those among them that let a turn wait for earlier ones.
+pub record Late (es late : List Edge) (turn : ℕ) : Type 0 where
+  pub within : (e : Edge) → e ∈ late → e ∈ es
+  pub whole : (e : Edge) → e ∈ es → 0 < e .delay → e .delay < turn → e ∈ late

@@ -8,12 +8,13 @@ ghost use Rattle.model.specs.Tasks.{Ends};
 ghost use Rattle.model.specs.Compute.{zeroCycle, latency};
 ghost use Rattle.records.specs.Columns.{edgesOf, zeros, at};
 ghost use Rattle.order.specs.Order.{InOrder};
-ghost use Rattle.starts.specs.Starts.{turnRow, turnRows, FileTimes, EndedBefore};
+ghost use Rattle.starts.specs.Starts.{turnRow, turnRows, FileTimes, EndedBefore, Late};
 use order::zero_order;
 use passes::settle_along;
 use waits::await_earlier;
 use waits::clear;
 use waits::ends_into;
+use waits::later_edges;
 use waits::settle;
 
 // Times of up to 64 tasks.
@@ -29,6 +30,24 @@ struct Starts {
 // Ends of up to 64 tasks in up to 64 turns, turn by turn.
 struct Ended {
     end: [u32; 4096],
+}
+
+// Up to 576 edges.
+struct EdgeLists {
+    source: [u8; 576],
+    sink: [u8; 576],
+    delay: [u8; 576],
+}
+
+// Lists to write into.
+fn blank_edges() -> EdgeLists
+    ensures { λ r. ⌜ (length (r .source) ≡ 576) × (length (r .sink) ≡ 576) × (length (r .delay) ≡ 576) ⌝ }
+{
+    EdgeLists {
+        source: [0; 576],
+        sink: [0; 576],
+        delay: [0; 576],
+    }
 }
 
 // Times of 1.
@@ -76,7 +95,7 @@ pub fn has_zero_cycle<'a>(source: &'a [u8], sink: &'a [u8], delay: &'a [u8], tas
 }
 
 // The earliest starts of one turn, counted from 1, after the ends of the turns before it; whatever the row held before. An order of the edges
-// of delay 0 saves rounds over them.
+// of delay 0 saves rounds over them; of the others only those count that let the turn wait.
 pub fn turn_starts<'a>(
     source: &'a [u8],
     sink: &'a [u8],
@@ -85,6 +104,9 @@ pub fn turn_starts<'a>(
     order_sink: &'a [u8],
     count: usize,
     found: bool,
+    late_source: &'a [u8],
+    late_sink: &'a [u8],
+    late_delay: &'a [u8],
     time: &'a [u16],
     ended: &'a [u32],
     turn: usize,
@@ -93,6 +115,8 @@ pub fn turn_starts<'a>(
     requires { ⌜ (length (now sink) ≡ length (now source)) × (length (now delay) ≡ length (now source)) ⌝ }
     requires { ⌜ (count ≤ length (now «order_source»)) × (count ≤ length (now «order_sink»)) ⌝ }
     requires { ⌜ (found ≡ true → InOrder (edgesOf (now source) (now sink) (now delay)) (now «order_source») (now «order_sink») count) ⌝ }
+    requires { ⌜ (length (now «late_sink») ≡ length (now «late_source»)) × (length (now «late_delay») ≡ length (now «late_source»)) ⌝ }
+    requires { ⌜ Late (edgesOf (now source) (now sink) (now delay)) (edgesOf (now «late_source») (now «late_sink») (now «late_delay»)) turn ⌝ }
     requires { ⌜ (length (now time) ≡ length (now row)) × (length (now row) ≤ 64) ⌝ }
     requires { ⌜ (1 ≤ turn) × (turn ≤ 64) ⌝ }
     requires { ⌜ Ends (length (now row)) (edgesOf (now source) (now sink) (now delay)) ⌝ }
@@ -102,7 +126,7 @@ pub fn turn_starts<'a>(
     ensures { λ _. ⌜ now (row .exit) ≡ turnRow (length (now (row .entry))) (edgesOf (now (source .entry)) (now (sink .entry)) (now (delay .entry))) (at (now (time .entry))) turn ⌝ }
 {
     clear(row);
-    await_earlier(source, sink, delay, ended, turn, row);
+    await_earlier(late_source, late_sink, late_delay, ended, turn, row);
     settle_along(
         source,
         sink,
@@ -149,6 +173,9 @@ pub fn latency_along<'a>(
         order_sink,
         count,
         found,
+        &order_source[0..0],
+        &order_source[0..0],
+        &order_source[0..0],
         time,
         &none[0..0],
         1,
@@ -198,6 +225,7 @@ pub fn turns_into<'a>(
     starts: &mut [u32],
 )
     requires { ⌜ (length (now sink) ≡ length (now source)) × (length (now delay) ≡ length (now source)) ⌝ }
+    requires { ⌜ length (now source) ≤ 576 ⌝ }
     requires { ⌜ (length (now time) ≤ 64) × (turns ≤ 64) × (length (now time) * turns ≤ length (now starts)) ⌝ }
     requires { ⌜ Ends (length (now time)) (edgesOf (now source) (now sink) (now delay)) ⌝ }
     requires { ⌜ zeroCycle (length (now time)) (edgesOf (now source) (now sink) (now delay)) ≡ false ⌝ }
@@ -210,6 +238,19 @@ pub fn turns_into<'a>(
     let order_sink = order.sink;
     let count = order.count as usize;
     let found = order.found;
+    let lists = blank_edges();
+    let mut late_source = lists.source;
+    let mut late_sink = lists.sink;
+    let mut late_delay = lists.delay;
+    let late = later_edges(
+        source,
+        sink,
+        delay,
+        turns,
+        &mut late_source,
+        &mut late_sink,
+        &mut late_delay,
+    );
     let ends = no_ends();
     let mut end = ends.end;
     let mut at = 0;
@@ -223,6 +264,9 @@ pub fn turns_into<'a>(
             &order_sink,
             count,
             found,
+            &late_source[0..late],
+            &late_sink[0..late],
+            &late_delay[0..late],
             time,
             &end[0..at],
             turn,

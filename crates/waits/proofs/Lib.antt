@@ -4,3 +4,4 @@ pub mod Ends
 pub mod Lifts
 pub mod Rounds
 pub mod Earlier
+pub mod Later

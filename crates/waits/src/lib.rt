@@ -6,7 +6,7 @@ ghost use lib.ListN.{length};
 ghost use Rattle.model.specs.Lists.{tabulate};
 ghost use Rattle.model.specs.Tasks.{Ends};
 ghost use Rattle.records.specs.Columns.{edgesOf, zeros, at};
-ghost use Rattle.waits.specs.Waits.{Settles, Awaits};
+ghost use Rattle.waits.specs.Waits.{Settles, Awaits, LaterEdges};
 ghost use Rattle.waits.specs.Rounds.{Raised};
 
 // What one round over the edges did: whether it raised a start, and whether it ended because one would have to pass the limit.
@@ -129,6 +129,46 @@ pub fn await_earlier<'a>(
         }
         j += 1;
     }
+}
+
+// 1 if an edge of this delay lets turns wait for earlier ones among so many, else 0.
+fn one_if_later(delay: u8, turns: usize) -> usize
+    ensures later { λ r. ⌜ (0 < delay → delay < turns → r ≡ 1) ⌝ }
+    ensures few { λ r. ⌜ r ≤ 1 ⌝ }
+{
+    if delay == 0 {
+        return 0;
+    }
+    if turns <= delay as usize {
+        return 0;
+    }
+    1
+}
+
+// The edges that let some of the first turns wait for earlier ones, at the front of three lists. Gives how many.
+pub fn later_edges<'a, 'b>(
+    source: &'a [u8],
+    sink: &'a [u8],
+    delay: &'a [u8],
+    turns: usize,
+    to_source: &'b mut [u8],
+    to_sink: &'b mut [u8],
+    to_delay: &'b mut [u8],
+) -> usize
+    requires { ⌜ (length (now sink) ≡ length (now source)) × (length (now delay) ≡ length (now source)) × (length (now source) ≤ 576) ⌝ }
+    requires { ⌜ (length (now «to_source») ≡ 576) × (length (now «to_sink») ≡ 576) × (length (now «to_delay») ≡ 576) ⌝ }
+    ensures { λ r. ⌜ LaterEdges (now (source .entry)) (now (sink .entry)) (now (delay .entry)) turns (length (now (source .entry))) (now («to_source» .exit)) (now («to_sink» .exit)) (now («to_delay» .exit)) r ⌝ }
+{
+    let mut count = 0;
+    let mut j = 0;
+    while j < source.len() {
+        to_source[count] = source[j];
+        to_sink[count] = sink[j];
+        to_delay[count] = delay[j];
+        count += one_if_later(delay[j], turns);
+        j += 1;
+    }
+    count
 }
 
 // The ends of one turn.

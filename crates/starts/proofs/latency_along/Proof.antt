@@ -16,6 +16,7 @@ use Rattle.starts.specs.Starts.{turnRow}
 use Rattle.starts.proofs.Limits.{end-as-u32}
 use Rattle.starts.proofs.Turns.{Ready, end-fits, row-in-front, none-ended}
 use Rattle.starts.proofs.Fronts.{front-room, front-length}
+use Rattle.starts.proofs.Later.{none-late}
 use Rattle.starts.proofs.latency_along.Statement.{statement}
 use Rattle.starts.proofs.latency_along.Tie as tie
 
@@ -27,16 +28,16 @@ ready s =
 
 -- the output's start in the list of starts with the first turn at its front
 first-start : (t : tie.After-turn-starts) (rest : List ℕ) →
-    let start = t .before .before .before .before .before .before .before .before .before .before .before .before .before in
-    at (t .turn-starts .last .1 .1 .1 .1 .1 .1 .1 .1 .1 .1 .0 ++ rest) (start .args .output) ≡
+    let start = t .before .before .before .before .before .before .before .before .before .before .before .before .before .before .before .before in
+    at (t .turn-starts .last .1 .1 .1 .1 .1 .1 .1 .1 .1 .1 .1 .1 .1 .0 ++ rest) (start .args .output) ≡
     earliest (length (start .args .time .now)) (edgesOf (start .args .source .now) (start .args .sink .now) (start .args .delay .now))
     (estimates (at (start .args .time .now))) (start .args .output) 1
 unfolding zeros
 first-start t rest =
-    let start = t .before .before .before .before .before .before .before .before .before .before .before .before .before in
+    let start = t .before .before .before .before .before .before .before .before .before .before .before .before .before .before .before .before in
     let es = edgesOf (start .args .source .now) (start .args .sink .now) (start .args .delay .now) in
     let time = at (start .args .time .now) in
-    let width = front-length 64 0 (t .before .before .before .before .before .before .no-starts .ensures) (start .pre .1 .1 .1 .0 .0) in
+    let width = front-length 64 0 (t .before .before .before .before .before .before .before .before .before .no-starts .ensures) (start .pre .1 .1 .1 .0 .0) in
     row-in-front (length (start .args .time .now)) es time 1 (t .turn-starts .ensures ∙ ap (λ (m : ℕ). turnRow m es time 1) width) rest
     (start .args .output) (start .pre .1 .1 .1 .0 .1)
 
@@ -61,14 +62,14 @@ part-start-start c = search needs
 part-start-end : tie.Need-part-start-end
 unfolding zeros
 part-start-end c =
-    let start = c .before .before .before .before .before .before .before .before .before .before .before in
-    front-room 64 0 (c .before .before .before .before .no-starts .ensures) (start .pre .1 .1 .1 .0 .0)
+    let start = c .before .before .before .before .before .before .before .before .before .before .before .before .before .before in
+    front-room 64 0 (c .before .before .before .before .before .before .before .no-starts .ensures) (start .pre .1 .1 .1 .0 .0)
 
 turn-starts-requires : tie.Need-turn-starts-requires
 unfolding zeros
 turn-starts-requires c κs =
-    let start = c .before .before .before .before .before .before .before .before .before .before .before .before in
-    let blank = c .before .before .before .before .before .no-starts .ensures in
+    let start = c .before .before .before .before .before .before .before .before .before .before .before .before .before .before .before in
+    let blank = c .before .before .before .before .before .before .before .before .no-starts .ensures in
     let given = start .pre in
     let asked = given .1 .1 in
     let es = edgesOf (start .args .source .now) (start .args .sink .now) (start .args .delay .now) in
@@ -79,12 +80,18 @@ turn-starts-requires c κs =
         (
           given .1 .1 .0,
           (
-            (same, subst (λ (m : ℕ). m ≤ 64) same (asked .1 .0 .0)),
+            (refl, refl),
             (
-              (omega arith, omega arith),
+              none-late es _ _ _ refl,
               (
-                subst (λ (m : ℕ). Ends m es) same (asked .1 .1 .0),
-                (subst (λ (m : ℕ). zeroCycle m es ≡ false) same (asked .1 .1 .1 .0), (asked .1 .1 .1 .1, none-ended _ es (at (start .args .time .now)) _)),
+                (same, subst (λ (m : ℕ). m ≤ 64) same (asked .1 .0 .0)),
+                (
+                  (omega arith, omega arith),
+                  (
+                    subst (λ (m : ℕ). Ends m es) same (asked .1 .1 .0),
+                    (subst (λ (m : ℕ). zeroCycle m es ≡ false) same (asked .1 .1 .1 .0), (asked .1 .1 .1 .1, none-ended _ es (at (start .args .time .now)) _)),
+                  ),
+                ),
               ),
             ),
           ),
@@ -110,15 +117,42 @@ cast-result c = fits-widen tt (c .shared-slice-known7 .given _)
 add-result : tie.Need-add-result
 unfolding at
 add-result c =
-    let start = c .before .before .before .before .before .before .before .before .before .before .before .before .before .before .before in
+    let start = c .before .before .before .before .before .before .before .before .before .before .before .before .before .before .before .before .before .before in
     let end = end-fits (ready start) (le-refl 1) (omega arith) (start .args .output) (start .pre .1 .1 .1 .0 .1) in
     end-as-u32 (subst (λ (x : ℕ). x ≤ 268435456) (sym (first-start (c .before .before) _)) (omega arith)) (c .shared-slice-known7 .given _)
 
 returns : tie.Need-returns
 unfolding at latency
 returns c =
-    let start = c .before .before .before .before .before .before .before .before .before .before .before .before .before .before .before in
+    let start = c .before .before .before .before .before .before .before .before .before .before .before .before .before .before .before .before .before .before in
     ap (λ (x : ℕ). x + at (start .args .time .now) (start .args .output)) (first-start (c .before .before) _)
+
+part-turn-starts-start-2 : tie.Need-part-turn-starts-start-2
+part-turn-starts-start-2 c = search needs
+
+part-turn-starts-end-2 : tie.Need-part-turn-starts-end-2
+part-turn-starts-end-2 c = search needs
+
+sub-turn-starts-3 : tie.Need-sub-turn-starts-3
+sub-turn-starts-3 c = search needs
+
+part-turn-starts-start-3 : tie.Need-part-turn-starts-start-3
+part-turn-starts-start-3 c = search needs
+
+part-turn-starts-end-3 : tie.Need-part-turn-starts-end-3
+part-turn-starts-end-3 c = search needs
+
+sub-turn-starts-4 : tie.Need-sub-turn-starts-4
+sub-turn-starts-4 c = search needs
+
+part-turn-starts-start-4 : tie.Need-part-turn-starts-start-4
+part-turn-starts-start-4 c = search needs
+
+part-turn-starts-end-4 : tie.Need-part-turn-starts-end-4
+part-turn-starts-end-4 c = search needs
+
+sub-turn-starts-5 : tie.Need-sub-turn-starts-5
+sub-turn-starts-5 c = search needs
 
 pub latency-along-spec : {M : Type 1} → statement M
 latency-along-spec =
@@ -129,6 +163,15 @@ latency-along-spec =
     part-turn-starts-start
     part-turn-starts-end
     sub-turn-starts-2
+    part-turn-starts-start-2
+    part-turn-starts-end-2
+    sub-turn-starts-3
+    part-turn-starts-start-3
+    part-turn-starts-end-3
+    sub-turn-starts-4
+    part-turn-starts-start-4
+    part-turn-starts-end-4
+    sub-turn-starts-5
     part-start-start
     part-start-end
     turn-starts-requires

@@ -2,9 +2,9 @@
 use mathlib.Core.Path.{_≡_, sym, _∙_, subst}
 use mathlib.Core.Bool.{false}
 use mathlib.Core.List.{List}
-use Prim.Native.Nat.{ℕ, _*_, _≤_}
+use Prim.Native.Nat.{ℕ, _+_, _-_, _*_, _≤_}
 use native.Mathlib.Omega.{arith}
-use lib.ListN.{length}
+use lib.ListN.{length, length-take}
 use Rattle.model.specs.Tasks.{Edge, Ends}
 use Rattle.model.specs.Graph.{count, edges}
 use Rattle.model.specs.Compute.{zeroCycle}
@@ -164,12 +164,15 @@ turns-into-requires c κs =
     let same : edges g ≡ frontEdges reading = sym (held .held) in (
       (held .as-many-sinks, held .as-many-delays),
       (
-        (omega (arith, as-many, well .at-most-64), omega (arith, known .1), omega (arith, long)),
+        omega (arith, held .source-room, length-take (reading .tasks + reading .edges - 0) (reading .source)),
         (
-          subst (λ (es : List Edge). Ends n es) same (subst (λ (k : ℕ). Ends k (edges g)) (sym as-many) (graph-fit g well .ends)),
+          (omega (arith, as-many, well .at-most-64), omega (arith, known .1), omega (arith, long)),
           (
-            subst (λ (es : List Edge). zeroCycle n es ≡ false) same (subst (λ (k : ℕ). zeroCycle k (edges g) ≡ false) (sym as-many) (acyclic s is (room .0))),
-            file-times g (front (reading .tasks) (reading .time)) well as-many (held .times-are),
+            subst (λ (es : List Edge). Ends n es) same (subst (λ (k : ℕ). Ends k (edges g)) (sym as-many) (graph-fit g well .ends)),
+            (
+              subst (λ (es : List Edge). zeroCycle n es ≡ false) same (subst (λ (k : ℕ). zeroCycle k (edges g) ≡ false) (sym as-many) (acyclic s is (room .0))),
+              file-times g (front (reading .tasks) (reading .time)) well as-many (held .times-are),
+            ),
           ),
         ),
       ),
