@@ -60,20 +60,20 @@ through-sound es (suc k) a b = lesser-sound (through-sound es k a b) (plus-sound
 
 -- ── Complete ──
 
-within-mono : {o : Option ℕ} {d d′ : ℕ} → Within o d → d ≤ d′ → Within o d′
+pub within-mono : {o : Option ℕ} {d d′ : ℕ} → Within o d → d ≤ d′ → Within o d′
 within-mono (within h) l = within (le-trans h l)
 
-within-left : {x : Option ℕ} (y : Option ℕ) {d : ℕ} → Within x d → Within (lesser x y) d
+pub within-left : {x : Option ℕ} (y : Option ℕ) {d : ℕ} → Within x d → Within (lesser x y) d
 unfolding lesser
 within-left (some y) (within {x = x} h) = within (le-trans (min-le-left x y) h)
 within-left none (within h) = within h
 
-within-right : (x : Option ℕ) {y : Option ℕ} {d : ℕ} → Within y d → Within (lesser x y) d
+pub within-right : (x : Option ℕ) {y : Option ℕ} {d : ℕ} → Within y d → Within (lesser x y) d
 unfolding lesser
 within-right (some x) (within {x = y} h) = within (le-trans (min-le-right x y) h)
 within-right none (within h) = within h
 
-within-plus : {x y : Option ℕ} {d d′ : ℕ} → Within x d → Within y d′ → Within (plus x y) (d + d′)
+pub within-plus : {x y : Option ℕ} {d d′ : ℕ} → Within x d → Within y d′ → Within (plus x y) (d + d′)
 unfolding plus
 within-plus (within h) (within k) = within (add-le-add h k)
 

@@ -24,6 +24,14 @@ added es a b = es ++ (pairEdge a b ∷ [])
 pub pair-member : (es : List Edge) (a b : ℕ) → pairEdge a b ∈ added es a b
 pair-member es a b = Memᴰ·append-right es (here refl)
 
+pub added-ends : {n : ℕ} {es : List Edge} → Ends n es → {a b : ℕ} → a < n → b < n → Ends n (added es a b)
+unfolding pairEdge
+added-ends {n} {es} ends {a} {b} la lb e m = go (List·Memᴰ·append-cases es m)
+  where
+    go : e ∈ es ⊎ e ∈ (pairEdge a b ∷ []) → (e .source < n) × (e .sink < n)
+    go (inl k) = ends e k
+    go (inr k) = subst (λ (f : Edge). (f .source < n) × (f .sink < n)) (sym (List·Memᴰ·eq-of-singleton k)) (la, lb)
+
 -- no way leads from b to a, not even that of no edge
 abbrev pub NoWay : List Edge → ℕ → ℕ → Type 0
 NoWay es b a = (p : List Edge) → Walk es b p a → ⊥
@@ -159,15 +167,8 @@ pub pair-off-cycles : (g : Graph) (list : List Edge) → OffCycles g list → (a
     ((d : ℕ) → Path (presentEdges g list) b a d → ⊥) → OffCycles g (withPair list a b)
 unfolding presentEdges withPair pairEdge
 pair-off-cycles g list off a b l l′ none =
-    record { sync-ends = off .sync-ends; proposed-ends = bounds; no-zero-cycle = off .no-zero-cycle; off-cycles = no-cycle }
+    record { sync-ends = off .sync-ends; proposed-ends = added-ends (off .proposed-ends) l l′; no-zero-cycle = off .no-zero-cycle; off-cycles = no-cycle }
   where
-    bounds : Ends (count g) (added list a b)
-    bounds e m = go (List·Memᴰ·append-cases list m)
-      where
-        go : e ∈ list ⊎ e ∈ (pairEdge a b ∷ []) → (e .source < count g) × (e .sink < count g)
-        go (inl k) = off .proposed-ends e k
-        go (inr k) = subst (λ (f : Edge). (f .source < count g) × (f .sink < count g)) (sym (List·Memᴰ·eq-of-singleton k)) (l, l′)
-
     no-cycle : NoneOnCycle (presentEdges g (withPair list a b)) (added list a b)
     no-cycle e m c =
         go (List·Memᴰ·append-cases list m) (subst (λ (es : List Edge). OnCycle es e) (present-pair g list a b) c)
@@ -181,7 +182,7 @@ pair-off-cycles g list off a b l l′ none =
 
 -- ── What a pair subsumes ──
 
-counts-walk : {es : List Edge} {a b d : ℕ} → Counts es a b d → (p : List Edge) × Walk es a p b × (total p ≡ d)
+pub counts-walk : {es : List Edge} {a b d : ℕ} → Counts es a b d → (p : List Edge) × Walk es a p b × (total p ≡ d)
 unfolding total
 counts-walk (itself q z) = ([], stop q, sym z)
 counts-walk {es} {a} {b} (least other l) = go l

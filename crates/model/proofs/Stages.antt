@@ -117,7 +117,7 @@ module _ {es rs : List Edge} (among : Among es rs) where
       subst (λ (x : ℕ). x ≤ m) (r .3) (many .largest (r .0) (r .1) (walk-re-base (λ e k. among e) (r .2 .0), r .2 .1))
 
 -- the result of fewer proposed edges
-result-among : (g : Graph) → Ends (count g) (g .syncs) → {xs ys : List Edge} → Among xs ys → Among (edges (result g xs)) (edges (result g ys))
+pub result-among : (g : Graph) → Ends (count g) (g .syncs) → {xs ys : List Edge} → Among xs ys → Among (edges (result g xs)) (edges (result g ys))
 result-among g bounds {xs} {ys} among e m = go (result-cases g bounds xs m)
   where
     go : Origin g xs e → e ∈ edges (result g ys)
@@ -278,7 +278,7 @@ module _ (g : Graph) (list : List Edge) (off : OffCycles g list) (a b : ℕ) (ca
       go (inl k) = let r = keep-out remains list k in inl (r .0, (decides e) .if-false (r .1))
       go (inr k) = inr (List·Memᴰ·eq-of-singleton k)
 
-  replaced-among : Among (replaced g list a b) (withPair list a b)
+  pub replaced-among : Among (replaced g list a b) (withPair list a b)
   unfolding withPair
   replaced-among e m = go (replaced-cases m)
     where
@@ -290,12 +290,12 @@ module _ (g : Graph) (list : List Edge) (off : OffCycles g list) (a b : ℕ) (ca
   replaced-off-cycles =
       off-cycles-among g replaced-among (pair-off-cycles g list off a b (candidate .source-task) (candidate .sink-task) (candidate .no-path-back))
 
-  next-ends : Ends (count g) next
+  pub next-ends : Ends (count g) next
   next-ends = result-ends g (off .sync-ends) (replaced g list a b) (replaced-off-cycles .proposed-ends)
 
   -- ── Orders ──
 
-  pair-in : pairEdge a b ∈ next
+  pub pair-in : pairEdge a b ∈ next
   unfolding replaced withPair
   pair-in = result-proposed g (replaced g list a b) (Memᴰ·append-right rest (here refl))
 
@@ -331,7 +331,7 @@ module _ (g : Graph) (list : List Edge) (off : OffCycles g list) (a b : ℕ) (ca
       let after = walk-re-base (λ f k m. stays m (free-after (r .3) f k)) (r .3) in
       (total (r .0) + (0 + total (r .1)), walk-over {e = pairEdge a b} before pair-in after, omega arith)
 
-  replaced-held : AllHeld next now
+  pub replaced-held : AllHeld next now
   replaced-held e m = go (decided (decides e))
     where
       go : Subsumes now a b e ⊎ (Subsumes now a b e → ⊥) → OrderHeld next e
