@@ -7,12 +7,12 @@ use native.Mathlib.Nat.{not-suc-le-zero}
 use native.Mathlib.Numerals.{add-one}
 use native.Mathlib.Omega.{arith}
 use lib.ListN.{length, getD, take, set, length-set, length-append, List·getD-append}
-use lib.Seq.{take-suc-set, getD-at}
+use lib.Seq.{take-suc-set, getD-at, length-take-le}
 use Rattle.model.specs.Lists.{tabulate}
 use Rattle.model.specs.Tasks.{Edge, noEdge}
 use Rattle.model.proofs.Basics.{below-suc}
-use Rattle.records.specs.Columns.{Column, edgesOf}
-use Rattle.records.proofs.Edges.{edges-of-columns}
+use Rattle.records.specs.Columns.{Column, heldEdge, edgesOf}
+use Rattle.records.proofs.Edges.{edge-at, edges-of-columns}
 use Rattle.results.specs.declared.ResultEdges.{ResultEdges}
 use Rattle.results.specs.Results.{HeldResult}
 use Rattle.results.specs.Fronts.{Front, HeldFront}
@@ -109,3 +109,39 @@ held-result held few = record {
   delay-room = held .delays .room;
   held = held-edges held;
 }
+
+-- and the other way round
+pub result-front : {r : ResultEdges} {es : List Edge} → HeldResult r es → HeldFront 576 (r .count) (r .source) (r .sink) (r .delay) es
+unfolding heldEdge
+result-front {r} {es} held = record {
+  sources = front (λ e. e .source) (r .source) (held .source-room) (λ i. refl);
+  sinks = front (λ e. e .sink) (r .sink) (held .sink-room) (λ i. refl);
+  delays = front (λ e. e .delay) (r .delay) (held .delay-room) (λ i. refl);
+}
+  where
+    part-length : (list : List ℕ) → length list ≡ 576 → length (take (r .count) list) ≡ length es
+    part-length list room = length-take-le (r .count) list (subst (λ (n : ℕ). r .count ≤ n) (sym room) (held .few)) ∙ held .as-many
+
+    sources : List ℕ
+    sources = take (r .count) (r .source)
+
+    sinks : List ℕ
+    sinks = take (r .count) (r .sink)
+
+    delays : List ℕ
+    delays = take (r .count) (r .delay)
+
+    front : (part : Edge → ℕ) (list : List ℕ) → length list ≡ 576 →
+        ((i : ℕ) → getD (take (r .count) list) i 0 ≡ part (heldEdge sources sinks delays i)) → Front part es 576 (r .count) list
+    front part list room is = record {
+      as-many = held .as-many;
+      room = room;
+      column = record {
+        as-many = part-length list room;
+        same = λ i l.
+            is i ∙
+            ap part
+            (sym (edge-at sources sinks delays i (subst (λ (n : ℕ). i < n) (sym (part-length (r .source) (held .source-room))) l)) ∙
+            ap (λ (xs : List Edge). getD xs i noEdge) (held .held));
+      };
+    }

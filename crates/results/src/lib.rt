@@ -116,6 +116,40 @@ fn append<'a, 'b>(
     }
 }
 
+// Edges behind those that lists hold already.
+pub fn with_edges<'a>(
+    kept: ResultEdges,
+    source: &'a [u8],
+    sink: &'a [u8],
+    delay: &'a [u8],
+) -> ResultEdges
+    requires { ⌜ (length (now sink) ≡ length (now source)) × (length (now delay) ≡ length (now source)) ⌝ }
+    requires { ⌜ kept .count + length (now source) ≤ 576 ⌝ }
+    requires { ⌜ ((es : List Edge) × HeldResult kept es) ⌝ }
+    ensures { λ r. ⌜ ((es : List Edge) → HeldResult kept es → HeldResult r (es ++ edgesOf (now (source .entry)) (now (sink .entry)) (now (delay .entry)))) ⌝ }
+{
+    let before = kept.count as usize;
+    let mut to_source = kept.source;
+    let mut to_sink = kept.sink;
+    let mut to_delay = kept.delay;
+    append(
+        source,
+        sink,
+        delay,
+        before,
+        &mut to_source,
+        &mut to_sink,
+        &mut to_delay,
+    );
+    let all = before + source.len();
+    ResultEdges {
+        count: all as u32,
+        source: to_source,
+        sink: to_sink,
+        delay: to_delay,
+    }
+}
+
 // The edges of the result of proposed edges, from the edges that order a graph.
 pub fn result_edges<'a>(
     source: &'a [u8],
