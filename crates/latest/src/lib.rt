@@ -1,11 +1,12 @@
 // The first turn: how early each task ends, and how late each may start.
 ghost use mathlib.Core.Path.{_≡_};
-ghost use mathlib.Core.Bool.{false};
+ghost use mathlib.Core.Bool.{true, false};
 ghost use Prim.Native.Nat.{_+_, _≤_, _<_};
 ghost use lib.ListN.{length};
 ghost use Rattle.model.specs.Tasks.{Ends};
 ghost use Rattle.model.specs.Compute.{zeroCycle, latency};
 ghost use Rattle.records.specs.Columns.{edgesOf, zeros, at};
+ghost use Rattle.order.specs.Order.{InOrder};
 ghost use Rattle.starts.specs.Starts.{FileTimes};
 ghost use Rattle.latest.specs.Latest.{earliestEnds, LatestStarts};
 use order::zero_order;
@@ -45,6 +46,96 @@ fn latest_start(after: u32, time: u16, bound: u32) -> u32
     bound + REACHED - after - time as u32
 }
 
+// The earliest end of each task in the first turn, by an order of the edges of delay 0; whatever the row held before.
+pub fn ends_along<'a>(
+    source: &'a [u8],
+    sink: &'a [u8],
+    delay: &'a [u8],
+    order_source: &'a [u8],
+    order_sink: &'a [u8],
+    count: usize,
+    found: bool,
+    time: &'a [u16],
+    row: &mut [u32],
+)
+    requires { ⌜ (length (now sink) ≡ length (now source)) × (length (now delay) ≡ length (now source)) ⌝ }
+    requires { ⌜ (count ≤ length (now «order_source»)) × (count ≤ length (now «order_sink»)) ⌝ }
+    requires { ⌜ (found ≡ true → InOrder (edgesOf (now source) (now sink) (now delay)) (now «order_source») (now «order_sink») count) ⌝ }
+    requires { ⌜ (length (now time) ≡ length (now row)) × (length (now row) ≤ 64) ⌝ }
+    requires { ⌜ Ends (length (now row)) (edgesOf (now source) (now sink) (now delay)) ⌝ }
+    requires { ⌜ zeroCycle (length (now row)) (edgesOf (now source) (now sink) (now delay)) ≡ false ⌝ }
+    requires { ⌜ FileTimes (now time) ⌝ }
+    ensures { λ _. ⌜ now (row .exit) ≡ earliestEnds (length (now (row .entry))) (edgesOf (now (source .entry)) (now (sink .entry)) (now (delay .entry))) (at (now (time .entry))) ⌝ }
+{
+    let tasks = time.len();
+    let starts = no_starts();
+    let mut start = starts.start;
+    let none = starts.start;
+    turn_starts(
+        source,
+        sink,
+        delay,
+        order_source,
+        order_sink,
+        count,
+        found,
+        &order_source[0..0],
+        &order_source[0..0],
+        &order_source[0..0],
+        time,
+        &none[0..0],
+        1,
+        &mut start[0..tasks],
+    );
+    ends_into(time, &start[0..tasks], row);
+}
+
+// The latest start of each task with which the output can still end by the bound, by an order of the edges of delay 0; whatever the row held
+// before.
+pub fn latest_along<'a>(
+    source: &'a [u8],
+    sink: &'a [u8],
+    delay: &'a [u8],
+    order_source: &'a [u8],
+    order_sink: &'a [u8],
+    count: usize,
+    found: bool,
+    time: &'a [u16],
+    output: usize,
+    bound: u32,
+    row: &mut [u32],
+)
+    requires { ⌜ (length (now sink) ≡ length (now source)) × (length (now delay) ≡ length (now source)) ⌝ }
+    requires { ⌜ (count ≤ length (now «order_source»)) × (count ≤ length (now «order_sink»)) ⌝ }
+    requires { ⌜ (found ≡ true → InOrder (edgesOf (now source) (now sink) (now delay)) (now «order_source») (now «order_sink») count) ⌝ }
+    requires { ⌜ (length (now time) ≡ length (now row)) × (length (now row) ≤ 64) × (output < length (now row)) ⌝ }
+    requires { ⌜ Ends (length (now row)) (edgesOf (now source) (now sink) (now delay)) ⌝ }
+    requires { ⌜ zeroCycle (length (now row)) (edgesOf (now source) (now sink) (now delay)) ≡ false ⌝ }
+    requires { ⌜ FileTimes (now time) ⌝ }
+    requires { ⌜ (latency (length (now row)) (edgesOf (now source) (now sink) (now delay)) (at (now time)) output ≤ bound) × (bound < 8388608) ⌝ }
+    ensures { λ _. ⌜ LatestStarts (length (now (row .entry))) (edgesOf (now (source .entry)) (now (sink .entry)) (now (delay .entry))) (at (now (time .entry))) output bound (now (row .exit)) ⌝ }
+{
+    clear(row);
+    row[output] = REACHED;
+    // Backwards along the edges: the time that the way to the output takes after each task.
+    settle_back(
+        source,
+        sink,
+        delay,
+        order_source,
+        order_sink,
+        count,
+        found,
+        time,
+        row,
+    );
+    let mut v = 0;
+    while v < row.len() {
+        row[v] = latest_start(row[v], time[v], bound);
+        v += 1;
+    }
+}
+
 // The earliest end of each task in the first turn, whatever the row held before.
 pub fn earliest_ends<'a>(
     source: &'a [u8],
@@ -64,10 +155,7 @@ pub fn earliest_ends<'a>(
     let order = zero_order(source, sink, delay, tasks);
     let order_source = order.source;
     let order_sink = order.sink;
-    let starts = no_starts();
-    let mut start = starts.start;
-    let none = starts.start;
-    turn_starts(
+    ends_along(
         source,
         sink,
         delay,
@@ -75,15 +163,9 @@ pub fn earliest_ends<'a>(
         &order_sink,
         order.count as usize,
         order.found,
-        &source[0..0],
-        &source[0..0],
-        &source[0..0],
         time,
-        &none[0..0],
-        1,
-        &mut start[0..tasks],
+        row,
     );
-    ends_into(time, &start[0..tasks], row);
 }
 
 // The latest start of each task with which the output can still end by the bound, whatever the row held before.
@@ -107,10 +189,7 @@ pub fn latest_starts<'a>(
     let order = zero_order(source, sink, delay, time.len());
     let order_source = order.source;
     let order_sink = order.sink;
-    clear(row);
-    row[output] = REACHED;
-    // Backwards along the edges: the time that the way to the output takes after each task.
-    settle_back(
+    latest_along(
         source,
         sink,
         delay,
@@ -119,11 +198,8 @@ pub fn latest_starts<'a>(
         order.count as usize,
         order.found,
         time,
+        output,
+        bound,
         row,
     );
-    let mut v = 0;
-    while v < row.len() {
-        row[v] = latest_start(row[v], time[v], bound);
-        v += 1;
-    }
 }
