@@ -1,14 +1,14 @@
--- Marks by which the search for a repeated edge passes over edges whose pair of ends no earlier edge has.
+-- Marks by which the search for a repeated edge passes over edges at whose place no earlier edge has left one.
 use mathlib.Core.Path.{_≡_}
 use mathlib.Core.List.{List}
 use Prim.Native.Nat.{ℕ, _+_, _*_, _%_, _<_}
 use lib.ListN.{length, getD}
 
--- the place of a pair of ends among 64 * 64 marks: pairs of ends below 64 have a place each, and any other shares one of these
-abbrev pub pairPlace : ℕ → ℕ → ℕ
-pairPlace source sink = source % 64 * 64 + sink % 64
+-- the place of an edge among 4096 marks: pairs of ends below 64 have a place each at delay 0, and a delay moves it on, so that few edges share one
+abbrev pub edgePlace : ℕ → ℕ → ℕ → ℕ
+edgePlace source sink delay = (source * 64 + sink + delay * 1657) % 4096
 
--- Each of the first j edges, of which the lists hold sources and sinks, has a mark at the place of its ends.
-pub record Marked (source sink : List ℕ) (j : ℕ) (seen : List ℕ) : Type 0 where
+-- Each of the first j edges that the lists hold has a mark at its place.
+pub record Marked (source sink delay : List ℕ) (j : ℕ) (seen : List ℕ) : Type 0 where
   pub room : length seen ≡ 4096
-  pub each : (i : ℕ) → i < j → getD seen (pairPlace (getD source i 0) (getD sink i 0)) 0 ≡ 1
+  pub each : (i : ℕ) → i < j → getD seen (edgePlace (getD source i 0) (getD sink i 0) (getD delay i 0)) 0 ≡ 1

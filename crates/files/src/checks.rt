@@ -7,7 +7,7 @@ ghost use lib.ListN.{length};
 ghost use Rattle.model.specs.Tasks.{Task, Edge};
 ghost use Rattle.model.specs.Graph.{Graph};
 ghost use Rattle.files.specs.Files.{firstOf, timeRefusal, endsRefusal, edgeRefusal, repeatRefusal, repeatsEarlier, graphRecordsRefusal, proposedEdgesRefusal};
-ghost use Rattle.files.specs.Marks.{Marked};
+ghost use Rattle.files.specs.Marks.{edgePlace, Marked};
 ghost use Rattle.records.specs.Columns.{ProcessorsOf, TimesOf, SourcesOf, SinksOf, DelaysOf};
 use crate::PASSED;
 use crate::Refusal;
@@ -97,7 +97,7 @@ fn repeats_earlier<'a>(source: &'a [u8], sink: &'a [u8], delay: &'a [u8], j: usi
     found
 }
 
-// Room for a mark at each pair of ends.
+// Room for a mark at each place.
 struct Marks {
     seen: [u8; 4096],
 }
@@ -109,8 +109,15 @@ fn blank_marks() -> Marks
     Marks { seen: [0; 4096] }
 }
 
-// Whether edge j has the source, sink and delay of an earlier one, where each earlier one is marked; edge j is marked too. The
-// earlier ones are compared only if the mark was there before.
+// The place of an edge's mark.
+fn edge_place(source: u8, sink: u8, delay: u8) -> usize
+    ensures { λ r. ⌜ r ≡ edgePlace source sink delay ⌝ }
+{
+    (source as usize * 64 + sink as usize + delay as usize * 1657) % 4096
+}
+
+// Whether edge j has the source, sink and delay of an earlier one, where each earlier one is marked at the place of its numbers; edge j
+// is marked too. The earlier ones are compared only if the mark was there before.
 fn repeats_marked<'a>(
     source: &'a [u8],
     sink: &'a [u8],
@@ -121,23 +128,41 @@ fn repeats_marked<'a>(
     requires { ⌜ j < length (now source) ⌝ }
     requires { ⌜ length (now sink) ≡ length (now source) ⌝ }
     requires { ⌜ length (now delay) ≡ length (now source) ⌝ }
-    requires { ⌜ Marked (now source) (now sink) j (now seen) ⌝ }
+    requires { ⌜ Marked (now source) (now sink) (now delay) j (now seen) ⌝ }
     ensures { λ r. ⌜ ((es : List Edge) → SourcesOf es (now (source .entry)) → SinksOf es (now (sink .entry)) → DelaysOf es (now (delay .entry)) → r ≡ repeatsEarlier es j) ⌝ }
-    ensures { λ _. ⌜ Marked (now (source .entry)) (now (sink .entry)) (j + 1) (now (seen .exit)) ⌝ }
+    ensures { λ _. ⌜ Marked (now (source .entry)) (now (sink .entry)) (now (delay .entry)) (j + 1) (now (seen .exit)) ⌝ }
 {
-    let from = source[j] as usize;
-    let to = sink[j] as usize;
-    let pair = from % 64 * 64 + to % 64;
-    let before = seen[pair];
-    seen[pair] = 1;
+    let place = edge_place(source[j], sink[j], delay[j]);
+    let before = seen[place];
+    seen[place] = 1;
     if before == 0 {
         return false;
     }
     repeats_earlier(source, sink, delay, j)
 }
 
-// 8: the first edge that repeats an earlier one.
-fn repeats_refusal<'a>(source: &'a [u8], sink: &'a [u8], delay: &'a [u8]) -> Refusal
+// 8 by comparing each edge with all earlier ones: for few edges.
+fn few_repeats_refusal<'a>(source: &'a [u8], sink: &'a [u8], delay: &'a [u8]) -> Refusal
+    requires { ⌜ length (now source) ≤ 256 ⌝ }
+    requires { ⌜ length (now sink) ≡ length (now source) ⌝ }
+    requires { ⌜ length (now delay) ≡ length (now source) ⌝ }
+    ensures { λ r. ⌜ ((es : List Edge) → SourcesOf es (now (source .entry)) → SinksOf es (now (sink .entry)) → DelaysOf es (now (delay .entry)) → r ≡ firstOf (length es) (repeatRefusal es)) ⌝ }
+{
+    let mut j = 0;
+    while j < source.len() {
+        if repeats_earlier(source, sink, delay, j) {
+            return Refusal {
+                number: 8,
+                place: j as u32 + 1,
+            };
+        }
+        j += 1;
+    }
+    PASSED
+}
+
+// 8 by marks: for many edges.
+fn many_repeats_refusal<'a>(source: &'a [u8], sink: &'a [u8], delay: &'a [u8]) -> Refusal
     requires { ⌜ length (now source) ≤ 256 ⌝ }
     requires { ⌜ length (now sink) ≡ length (now source) ⌝ }
     requires { ⌜ length (now delay) ≡ length (now source) ⌝ }
@@ -156,6 +181,19 @@ fn repeats_refusal<'a>(source: &'a [u8], sink: &'a [u8], delay: &'a [u8]) -> Ref
         j += 1;
     }
     PASSED
+}
+
+// 8: the first edge that repeats an earlier one.
+fn repeats_refusal<'a>(source: &'a [u8], sink: &'a [u8], delay: &'a [u8]) -> Refusal
+    requires { ⌜ length (now source) ≤ 256 ⌝ }
+    requires { ⌜ length (now sink) ≡ length (now source) ⌝ }
+    requires { ⌜ length (now delay) ≡ length (now source) ⌝ }
+    ensures { λ r. ⌜ ((es : List Edge) → SourcesOf es (now (source .entry)) → SinksOf es (now (sink .entry)) → DelaysOf es (now (delay .entry)) → r ≡ firstOf (length es) (repeatRefusal es)) ⌝ }
+{
+    if source.len() <= 16 {
+        return few_repeats_refusal(source, sink, delay);
+    }
+    many_repeats_refusal(source, sink, delay)
 }
 
 // "tasks 5; each edge 6 then 7; then 8" of a graph.

@@ -1,4 +1,4 @@
--- `files::checks::repeats_refusal` meets its contract: none of the edges looked at so far repeats an earlier one, and each is marked.
+-- `files::checks::many_repeats_refusal` meets its contract: none of the edges looked at so far repeats an earlier one, and each is marked.
 use mathlib.Core.Path.{_≡_, sym, subst, _∙_}
 use mathlib.Core.List.{List}
 use Prim.Native.Nat.{ℕ, _-_, _≤_, _<_}
@@ -14,12 +14,12 @@ use Rattle.records.specs.Columns.{SourcesOf, SinksOf, DelaysOf}
 use Rattle.files.proofs.First.{stops-at, stops-nowhere}
 use Rattle.files.proofs.Repeats.{repeat-stops, repeat-passes}
 use Rattle.files.proofs.Marks.{marked-none}
-use Rattle.files.proofs.checks.repeats_refusal.Statement.{statement}
-use Rattle.files.proofs.checks.repeats_refusal.Tie as tie
+use Rattle.files.proofs.checks.many_repeats_refusal.Statement.{statement}
+use Rattle.files.proofs.checks.many_repeats_refusal.Tie as tie
 
 abbrev Inv-loop : tie.InvT-loop
 Inv-loop source sink delay seen₀ j₀ seen j =
-    (j ≤ length source) × Marked source sink j seen ×
+    (j ≤ length source) × Marked source sink delay j seen ×
     ((es : List Edge) → SourcesOf es source → SinksOf es sink → DelaysOf es delay → (i : ℕ) → i < j → repeatRefusal es i ≡ notRefused)
 
 abbrev μ-loop : tie.MeasureT-loop
@@ -29,7 +29,7 @@ blank-marks-requires : tie.Need-blank-marks-requires Inv-loop μ-loop
 blank-marks-requires c κs = search needs
 
 loop-holds : tie.Need-loop-holds Inv-loop μ-loop
-loop-holds c = (omega arith, marked-none (c .before .before .before .before .before .args .source .now) (c .before .before .before .before .before .args .sink .now) (c .before .blank-marks .ensures), λ es from to turns. below-none (λ i. repeatRefusal es i ≡ notRefused))
+loop-holds c = (omega arith, marked-none (c .before .before .before .before .before .args .source .now) (c .before .before .before .before .before .args .sink .now) (c .before .before .before .before .before .args .delay .now) (c .before .blank-marks .ensures), λ es from to turns. below-none (λ i. repeatRefusal es i ≡ notRefused))
 
 slice-aggregate-repeats-marked : tie.Need-slice-aggregate-repeats-marked Inv-loop μ-loop
 slice-aggregate-repeats-marked c = search needs
@@ -78,8 +78,8 @@ returns-2 c =
     (stops-nowhere (length es) (repeatRefusal es) (subst (λ (m : ℕ). m ≤ c .before .loop .j) (from .as-many) (c .loop-test .left))
     (c .before .loop .inv .2 es from to turns))
 
-pub repeats-refusal-spec : {M : Type 1} → statement M
-repeats-refusal-spec =
+pub many-repeats-refusal-spec : {M : Type 1} → statement M
+many-repeats-refusal-spec =
     tie.close
     (tie.spec
     Inv-loop
