@@ -5,3 +5,4 @@ pub mod Fronts
 pub mod Accepting
 pub mod Judged
 pub mod Reached
+pub mod Turning

@@ -7,7 +7,7 @@ use mathlib.Core.List.{List, _++_}
 use Prim.Native.Nat.{ℕ, _+_, _-_, _≤_, _<_}
 use native.Mathlib.Nat.{le-refl, sub-zero}
 use native.Mathlib.Omega.{arith}
-use lib.Dec.{T, eqb, eqb→eq}
+use lib.Dec.{T, T-not, eqb, eqb→eq}
 use lib.ListN.{length, getD, take, set, length-set, length-replicate, getD-replicate, List·getD-append}
 use lib.Seq.{getD-take, getD-set-same, getD-set-other, length-take-le}
 use borrow.Author.Tests.{eq-eqb, ne-eqb}
@@ -99,6 +99,38 @@ module _ {n : ℕ} {es : List Edge} (ends : Ends n es) (input : ℕ) where
       on e m z none (inr here) =
           let a = ap (λ (b : Bool). counted b 1) (is-false (reached (e .source)) here) in
           omega arith
+
+  -- a set that holds the input, and with each source of an edge of delay 0 its sink, and nothing else, tells whether input and output are joined
+  pub joined-marked :
+      (held : ℕ → Bool) → held input ≡ true → ((e : Edge) → e ∈ es → e .delay ≡ 0 → held (e .source) ≡ true → held (e .sink) ≡ true)
+      → (output : ℕ)
+      → ((other : ℕ → Bool) → other input ≡ true → ((e : Edge) → e ∈ es → e .delay ≡ 0 → other (e .source) ≡ true → other (e .sink) ≡ true) → (v : ℕ) → held v ≡ true → other v ≡ true)
+      → not (eqb input output) && held output ≡ joined n es input output
+  unfolding joined reachedFrom total
+  joined-marked held start on output by = go (cases (eqb input output)) (cases (zeroPath n es input output))
+    where
+      walked : {a b : ℕ} {p : List Edge} → Walk es a p b → total p ≡ 0 → held a ≡ true → held b ≡ true
+      walked {a} {b} (stop q) none here = subst (λ (v : ℕ). held v ≡ true) q here
+      walked {a} {b} (step {e = e} {p = p} m from w) none here =
+          walked w (omega arith) (on e m (omega arith) (ap held from ∙ here))
+
+      go : T (eqb input output) ⊎ T (not (eqb input output)) → T (zeroPath n es input output) ⊎ T (not (zeroPath n es input output))
+          → not (eqb input output) && held output ≡ not (eqb input output) && zeroPath n es input output
+      go (inl same) path =
+          let is = is-true (eqb input output) same in
+          ap (λ (b : Bool). not b && held output) is ∙ sym (ap (λ (b : Bool). not b && zeroPath n es input output) is)
+      go (inr apart) (inl path) =
+          let way = (zero-path ends input output) .if-true path in
+          ap (λ (b : Bool). not (eqb input output) && b) (walked (way .walk) (way .sum) start ∙ sym (is-true (zeroPath n es input output) path))
+      go (inr apart) (inr none) = ap (λ (b : Bool). not (eqb input output) && b) (off (held output) refl ∙ sym (is-false (zeroPath n es input output) none))
+        where
+          off : (b : Bool) → held output ≡ b → held output ≡ false
+          off false is = is
+          off true is = absurd (nowhere (reached-path output (by reached first-reached reached-on output is)))
+            where
+              nowhere : (output ≡ input) ⊎ Path es input output 0 → ⊥
+              nowhere (inl same) = T-not (eqb input output) apart (eq→eqb (sym same))
+              nowhere (inr path) = T-not (zeroPath n es input output) none (decides-true (zero-path ends input output) path)
 
 -- numbers that do not fall along the edges of delay 0 do not fall along a path of delay 0
 walk-rises :

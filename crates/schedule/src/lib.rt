@@ -1,12 +1,14 @@
 // Refusals 9 to 12: what a schedule must have to be accepted. Every call on a graph starts from `accept`.
 ghost use mathlib.Core.Path.{_≡_};
-ghost use mathlib.Core.Bool.{true, false};
+ghost use mathlib.Core.Bool.{true, false, not, _&&_};
 ghost use Prim.Native.Nat.{_≤_, _<_};
+ghost use lib.Dec.{eqb};
 ghost use lib.ListN.{length};
 ghost use Rattle.files.specs.Refusals.{ifPassed};
 ghost use Rattle.model.specs.Tasks.{Ends};
 ghost use Rattle.model.specs.Compute.{inputFree, joined, latency, zeroCycle};
 ghost use Rattle.records.specs.Columns.{edgesOf, zeros, at};
+ghost use Rattle.reach.specs.Reach.{bit};
 ghost use Rattle.order.specs.Order.{InOrder};
 ghost use Rattle.delays.specs.Delays.{Fit};
 ghost use Rattle.starts.specs.Starts.{FileTimes};
@@ -18,6 +20,7 @@ use readings::GraphReading;
 use readings::read_graph;
 use starts::has_zero_cycle;
 use starts::latency_along;
+use turn::first_turn;
 
 // A graph file after all checks up to 12: the refusal, the latency of an accepted graph (0 if refused), and the file as read. The
 // reading's own refusal is of 1 to 8 only, so a graph that 9 to 12 refuse is still in it.
@@ -156,8 +159,8 @@ fn is_cyclic<'a>(
     has_zero_cycle(source, sink, delay, tasks)
 }
 
-// Checks 9 to 12.
-fn check_schedule<'a>(
+// Checks 9 to 12 by an order of the edges of delay 0 or by rounds: where the first turn is not found.
+fn check_in_order<'a>(
     source: &'a [u8],
     sink: &'a [u8],
     delay: &'a [u8],
@@ -208,7 +211,7 @@ fn check_schedule<'a>(
             latency: 0,
         };
     }
-    let latency = latency_along(
+    let ended = latency_along(
         source,
         sink,
         delay,
@@ -219,6 +222,69 @@ fn check_schedule<'a>(
         time,
         output,
     );
+    if bound < ended {
+        return Checked {
+            refusal: BOUND_BELOW,
+            latency: 0,
+        };
+    }
+    Checked {
+        refusal: PASSED,
+        latency: ended,
+    }
+}
+
+// Whether input and output differ, and the output is among the tasks reached.
+fn is_reached(reached: u64, input: usize, output: usize) -> bool
+    requires { ⌜ output < 64 ⌝ }
+    ensures { λ r. ⌜ r ≡ not (eqb input output) && bit reached output ⌝ }
+{
+    if output == input {
+        return false;
+    }
+    (reached >> output) & 1 != 0
+}
+
+// Checks 9 to 12: the first turn tells all that they ask for.
+fn check_schedule<'a>(
+    source: &'a [u8],
+    sink: &'a [u8],
+    delay: &'a [u8],
+    time: &'a [u16],
+    input: usize,
+    output: usize,
+    bound: u32,
+) -> Checked
+    requires { ⌜ (length (now sink) ≡ length (now source)) × (length (now delay) ≡ length (now source)) ⌝ }
+    requires { ⌜ (length (now time) ≤ 64) × (output < length (now time)) ⌝ }
+    requires { ⌜ Fit (length (now time)) (edgesOf (now source) (now sink) (now delay)) ⌝ }
+    requires { ⌜ FileTimes (now time) ⌝ }
+    ensures refusal { λ r. ⌜ r .refusal ≡ scheduleChecks (length (now (time .entry))) (edgesOf (now (source .entry)) (now (sink .entry)) (now (delay .entry))) (at (now (time .entry))) input output bound ⌝ }
+    ensures latency { λ r. ⌜ r .latency ≡ ifPassed (r .refusal .number) (latency (length (now (time .entry))) (edgesOf (now (source .entry)) (now (sink .entry)) (now (delay .entry))) (at (now (time .entry))) output) 0 ⌝ }
+{
+    let tasks = time.len();
+    if tasks <= input {
+        return check_in_order(source, sink, delay, time, input, output, bound);
+    }
+    let blank = blank_row();
+    let mut start = blank.reached;
+    let turn = first_turn(source, sink, delay, time, input, &mut start[0..tasks]);
+    if !turn.found {
+        return check_in_order(source, sink, delay, time, input, output, bound);
+    }
+    if !turn.free {
+        return Checked {
+            refusal: INPUT_WAITS,
+            latency: 0,
+        };
+    }
+    if !is_reached(turn.reached, input, output) {
+        return Checked {
+            refusal: NOT_JOINED,
+            latency: 0,
+        };
+    }
+    let latency = start[output] + time[output] as u32;
     if bound < latency {
         return Checked {
             refusal: BOUND_BELOW,

@@ -1,0 +1,5 @@
+-- The proofs that other crates may cite.
+pub mod Tasks
+pub mod Words
+pub mod Raising
+pub mod Walking
