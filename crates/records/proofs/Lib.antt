@@ -1,6 +1,6 @@
 -- The proofs that other crates may cite.
 pub mod Fill
-mod Nexts
+pub mod Nexts
 pub mod Parts
 pub mod Rows
 pub mod Edges

@@ -1,3 +1,3 @@
 -- The proofs that other crates may cite.
-pub mod Parts
-pub mod Rounds
+mod Rounds
+mod Swept

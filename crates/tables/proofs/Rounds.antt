@@ -21,7 +21,6 @@ use Rattle.model.proofs.Tests.{eqb-decides, decides-no}
 use Rattle.model.proofs.Theorems.{least-delay-is, least-bound}
 use Rattle.records.specs.Columns.{heldEdge, edgesOf}
 use Rattle.records.proofs.Rows.{place-within}
-use Rattle.records.proofs.Edges.{edge-in}
 use Rattle.delays.specs.Delays.{entry, delayTable, Fit}
 use Rattle.delays.proofs.Table.{table-length, table-at}
 use Rattle.tables.specs.Tables.{capped, Square, entryAt, cappedThrough, oneEdge, stepped, RowLowered, chosen, widened, Widened}
@@ -33,7 +32,7 @@ unfolding capped
 capped-small (some d) = omega arith
 capped-small none = omega arith
 
-capped-lesser : (x y : Option ℕ) → capped (lesser x y) ≡ min (capped x) (capped y)
+pub capped-lesser : (x y : Option ℕ) → capped (lesser x y) ≡ min (capped x) (capped y)
 unfolding capped lesser
 capped-lesser (some a) (some b) = omega arith
 capped-lesser (some a) none = omega arith
@@ -112,16 +111,6 @@ module _ (es : List Edge) (k : ℕ) {n : ℕ} {first table : List ℕ} where
   }
 
 -- ── One edge after the other ──
-
--- ends and delay of an edge of three lists
-pub fit-at :
-    (source sink delay : List ℕ) {n : ℕ} (j : ℕ) → Fit n (edgesOf source sink delay) → j < length source
-    → (getD source j 0 < n) × (getD sink j 0 < n) × (getD delay j 0 ≤ 255)
-unfolding heldEdge
-fit-at source sink delay j fit l =
-    let m = edge-in source sink delay j l in
-    let ends = fit .ends (heldEdge source sink delay j) m in
-    (ends .0, ends .1, fit .delays (heldEdge source sink delay j) m)
 
 -- a delay, if the test says so
 given : Bool → ℕ → Option ℕ

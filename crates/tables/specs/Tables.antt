@@ -1,4 +1,4 @@
--- Only for contracts inside: a table of delays while the rounds over inner tasks go on.
+-- Only for contracts inside: a table of delays while it is made.
 use mathlib.Core.Path.{_≡_}
 use mathlib.Core.Logic.{_⊎_}
 use mathlib.Core.Bool.{Bool, true, false}
@@ -41,6 +41,12 @@ stepped k f a b = min (f a b) (f a k + f k b)
 pub record RowLowered (way : ℕ) (onward : List ℕ) (count at : ℕ) (before after : List ℕ) : Type 0 where
   pub size : length after ≡ length before
   pub inside : (b : ℕ) → b < count → getD after (at + b) 0 ≡ min (getD before (at + b) 0) (way + getD onward b 0)
+  pub outside : (i : ℕ) → (i < at) ⊎ (at + count ≤ i) → getD after i 0 ≡ getD before i 0
+
+-- so many entries of a list from a place on are those of another from a place on; the others are as before
+pub record RowTaken (work : List ℕ) (from count at : ℕ) (before after : List ℕ) : Type 0 where
+  pub size : length after ≡ length before
+  pub inside : (b : ℕ) → b < count → getD after (at + b) 0 ≡ getD work (from + b) 0
   pub outside : (i : ℕ) → (i < at) ⊎ (at + count ≤ i) → getD after i 0 ≡ getD before i 0
 
 -- an entry of the finished table

@@ -1,12 +1,16 @@
-// The table of least delays, by Floyd's and Warshall's rounds over inner tasks: after k of them, all paths whose inner tasks are
-// below k count. Every inner loop goes along one row.
+// The table of least delays. Of few tasks by Floyd's and Warshall's rounds over inner tasks: after k of them, all paths whose inner tasks are
+// below k count. Of more, by lowering rows along edges (crate `sweeps`), which takes fewer steps. Every inner loop goes along one row.
 ghost use mathlib.Core.Path.{_≡_};
 ghost use mathlib.Core.List.{_++_};
-ghost use Prim.Native.Nat.{ℕ, _+_, _*_, _≤_, _<_, min};
+ghost use Prim.Native.Nat.{ℕ, _+_, _*_, _≤_, _<_};
 ghost use lib.ListN.{length, getD, drop};
 ghost use Rattle.records.specs.Columns.{edgesOf};
 ghost use Rattle.delays.specs.Delays.{delayTable, Fit};
-ghost use Rattle.tables.specs.Tables.{Square, RowLowered, Widened, entryAt, oneEdge, stepped, widened};
+ghost use Rattle.sweeps.specs.Sweeps.{rowAt};
+ghost use Rattle.tables.specs.Tables.{Square, RowLowered, RowTaken, Widened, entryAt, cappedThrough, oneEdge, stepped, widened};
+use sweeps::copy_row;
+use sweeps::lesser;
+use sweeps::settle;
 
 // One row of least delays.
 struct Row {
@@ -16,6 +20,12 @@ struct Row {
 // No path yet: above every least delay, and so small that the sum of two entries fits 16 bits.
 const FAR: u16 = 32767;
 
+// So many tasks that rounds over inner tasks take no longer than sweeps.
+const FEW: usize = 32;
+
+// Entries in a row of a table that is swept.
+const WIDTH: usize = 64;
+
 // No path, in the finished table.
 const NONE: u16 = 65535;
 
@@ -24,16 +34,6 @@ fn blank_row() -> Row
     ensures { λ r. ⌜ length (r .delay) ≡ 64 ⌝ }
 {
     Row { delay: [0; 64] }
-}
-
-// The smaller of two delays.
-fn lesser(a: u16, b: u16) -> u16
-    ensures { λ r. ⌜ r ≡ min a b ⌝ }
-{
-    if b < a {
-        return b;
-    }
-    a
 }
 
 // An entry as the finished table has it.
@@ -94,19 +94,6 @@ fn take_edges<'a>(
     }
 }
 
-// Copies entries of a table, as many as a row has room for.
-fn copy_row(table: &[u16], at: usize, count: usize, row: &mut [u16])
-    requires { ⌜ (at + count ≤ length (now table)) × (count ≤ length (now row)) ⌝ }
-    ensures size { λ _. ⌜ length (now (row .exit)) ≡ length (now (row .entry)) ⌝ }
-    ensures same { λ _. ⌜ ((b : ℕ) → b < count → getD (now (row .exit)) b 0 ≡ getD (now (table .entry)) (at + b) 0) ⌝ }
-{
-    let mut b = 0;
-    while b < count {
-        row[b] = table[at + b];
-        b += 1;
-    }
-}
-
 // Lowers a row of a table to what the way to another task, and that task's row after it, allow.
 fn lower_row(way: u16, onward: &[u16], count: usize, at: usize, table: &mut [u16])
     requires { ⌜ (way < 32767) × (count ≤ length (now onward)) × (at + count ≤ length (now table)) ⌝ }
@@ -141,6 +128,91 @@ fn join_through(k: usize, tasks: usize, table: &mut [u16])
     }
 }
 
+// The least delays, by rounds over inner tasks.
+fn by_inner_tasks<'a>(
+    source: &'a [u8],
+    sink: &'a [u8],
+    delay: &'a [u8],
+    tasks: usize,
+    table: &mut [u16],
+)
+    requires { ⌜ (length (now sink) ≡ length (now source)) × (length (now delay) ≡ length (now source)) ⌝ }
+    requires { ⌜ (tasks ≤ 64) × (tasks * tasks ≤ length (now table)) ⌝ }
+    requires { ⌜ Fit tasks (edgesOf (now source) (now sink) (now delay)) ⌝ }
+    ensures { λ _. ⌜ Square tasks (cappedThrough (edgesOf (now (source .entry)) (now (sink .entry)) (now (delay .entry))) tasks) (now (table .entry)) (now (table .exit)) ⌝ }
+{
+    set_far(tasks * tasks, table);
+    take_edges(source, sink, delay, tasks, table);
+    let mut k = 0;
+    while k < tasks {
+        join_through(k, tasks, table);
+        k += 1;
+    }
+}
+
+// Copies entries of a list to a place of another.
+fn take_row(work: &[u16], from: usize, count: usize, at: usize, table: &mut [u16])
+    requires { ⌜ (from + count ≤ length (now work)) × (at + count ≤ length (now table)) ⌝ }
+    ensures { λ _. ⌜ RowTaken (now (work .entry)) from count at (now (table .entry)) (now (table .exit)) ⌝ }
+{
+    let mut b = 0;
+    while b < count {
+        table[at + b] = work[from + b];
+        b += 1;
+    }
+}
+
+// Copies the first entries of the first rows of 64, so many, to the front of a list.
+fn take_rows(work: &[u16], tasks: usize, table: &mut [u16])
+    requires { ⌜ (tasks ≤ 64) × (tasks * tasks ≤ length (now table)) × (length (now work) ≡ 4096) ⌝ }
+    ensures { λ _. ⌜ Square tasks (rowAt (now (work .entry))) (now (table .entry)) (now (table .exit)) ⌝ }
+{
+    let mut a = 0;
+    let mut at = 0;
+    while a < tasks {
+        take_row(work, a * WIDTH, tasks, at, table);
+        at += tasks;
+        a += 1;
+    }
+}
+
+// The least delays, by lowering rows along edges.
+fn by_sweeps<'a>(source: &'a [u8], sink: &'a [u8], delay: &'a [u8], tasks: usize, table: &mut [u16])
+    requires { ⌜ (length (now sink) ≡ length (now source)) × (length (now delay) ≡ length (now source)) × (length (now source) ≤ 576) ⌝ }
+    requires { ⌜ (tasks ≤ 64) × (tasks * tasks ≤ length (now table)) ⌝ }
+    requires { ⌜ Fit tasks (edgesOf (now source) (now sink) (now delay)) ⌝ }
+    ensures { λ _. ⌜ Square tasks (cappedThrough (edgesOf (now (source .entry)) (now (sink .entry)) (now (delay .entry))) tasks) (now (table .entry)) (now (table .exit)) ⌝ }
+{
+    let mut work: [u16; 4096] = [FAR; 4096];
+    take_edges(source, sink, delay, WIDTH, &mut work);
+    settle(source, sink, delay, tasks, &mut work);
+    take_rows(&work, tasks, table);
+}
+
+// The least delays, 32,767 where there is no path.
+fn capped_table<'a>(
+    source: &'a [u8],
+    sink: &'a [u8],
+    delay: &'a [u8],
+    tasks: usize,
+    table: &mut [u16],
+)
+    requires { ⌜ (length (now sink) ≡ length (now source)) × (length (now delay) ≡ length (now source)) ⌝ }
+    requires { ⌜ (tasks ≤ 64) × (tasks * tasks ≤ length (now table)) ⌝ }
+    requires { ⌜ Fit tasks (edgesOf (now source) (now sink) (now delay)) ⌝ }
+    ensures { λ _. ⌜ Square tasks (cappedThrough (edgesOf (now (source .entry)) (now (sink .entry)) (now (delay .entry))) tasks) (now (table .entry)) (now (table .exit)) ⌝ }
+{
+    if tasks <= FEW {
+        by_inner_tasks(source, sink, delay, tasks, table);
+        return;
+    }
+    if 576 < source.len() {
+        by_inner_tasks(source, sink, delay, tasks, table);
+        return;
+    }
+    by_sweeps(source, sink, delay, tasks, table);
+}
+
 // The least delays from each task to each, row by row at the front of a list; elements past them keep what they held.
 pub fn least_table<'a>(
     source: &'a [u8],
@@ -154,12 +226,6 @@ pub fn least_table<'a>(
     requires { ⌜ Fit tasks (edgesOf (now source) (now sink) (now delay)) ⌝ }
     ensures { λ _. ⌜ now (table .exit) ≡ delayTable tasks (edgesOf (now (source .entry)) (now (sink .entry)) (now (delay .entry))) ++ drop (tasks * tasks) (now (table .entry)) ⌝ }
 {
-    set_far(tasks * tasks, table);
-    take_edges(source, sink, delay, tasks, table);
-    let mut k = 0;
-    while k < tasks {
-        join_through(k, tasks, table);
-        k += 1;
-    }
+    capped_table(source, sink, delay, tasks, table);
     widen(tasks * tasks, table);
 }

@@ -1,90 +1,31 @@
--- `tables::least_table` meets its contract: after k rounds the entries are the least delays over the paths whose inner tasks are below k.
-use mathlib.Core.Path.{_≡_, refl, _∙_, subst}
-use Prim.Native.Nat.{ℕ, _+_, _*_, _-_, _≤_}
+-- `tables::least_table` meets its contract: the capped table, widened, is the table of least delays.
+use mathlib.Core.Path.{_∙_}
 use native.Mathlib.Omega.{arith}
-use Rattle.records.specs.Columns.{edgesOf}
-use Rattle.records.proofs.Rows.{place-within, product-small}
-use Rattle.tables.specs.Tables.{Square, cappedThrough}
-use Rattle.tables.proofs.Rounds.{square-rebased, square-small, square-more, table-finished}
+use Rattle.records.proofs.Rows.{product-small}
+use Rattle.tables.proofs.Rounds.{table-finished}
 use Rattle.tables.proofs.least_table.Statement.{statement}
 use Rattle.tables.proofs.least_table.Tie as tie
 
-abbrev Inv-loop : tie.InvT-loop
-Inv-loop source sink delay tasks table₀ k₀ table k = (k ≤ tasks) × Square tasks (cappedThrough (edgesOf source sink delay) k) table₀ table
+capped-table-requires : tie.Need-capped-table-requires
+capped-table-requires c κs = c .before .before .before .before .before .pre
 
-abbrev μ-loop : tie.MeasureT-loop
-μ-loop source sink delay tasks table₀ k₀ table k = tasks - k
+mul-widen : tie.Need-mul-widen
+mul-widen c = omega (arith, product-small (c .before .before .before .before .before .before .before .before .args .tasks) (c .before .before .before .before .before .before .before .before .args .tasks) (c .before .before .before .before .before .before .before .before .pre .1 .0 .0) (c .before .before .before .before .before .before .before .before .pre .1 .0 .0))
 
-mul-set-far : tie.Need-mul-set-far Inv-loop μ-loop
-mul-set-far c = omega (arith, product-small (c .before .before .before .before .args .tasks) (c .before .before .before .before .args .tasks) (c .before .before .before .before .pre .1 .0 .0) (c .before .before .before .before .pre .1 .0 .0))
+widen-requires : tie.Need-widen-requires
+widen-requires c κs = omega (arith, c .before .before .before .capped-table .ensures .size, c .before .before .before .before .before .before .before .before .before .pre .1 .0 .1)
 
-set-far-requires : tie.Need-set-far-requires Inv-loop μ-loop
-set-far-requires c κs = c .before .before .before .before .before .pre .1 .0 .1
+same-length : tie.Need-same-length
+same-length c = c .before .before .widen .ensures .size ∙ c .before .before .before .before .before .before .capped-table .ensures .size
 
-take-edges-requires : tie.Need-take-edges-requires Inv-loop μ-loop
-take-edges-requires c κs =
-    let start = c .before .before .before .before .before .before .before .before .before in
-    let far = c .before .before .before .set-far .ensures in
-    let n = start .args .tasks in
-    (start .pre .0, ((start .pre .1 .0 .0, omega (arith, far .0, start .pre .1 .0 .1)), (start .pre .1 .1, λ a b l m. far .1 .0 (a * n + b) (place-within n n a b l m))))
-
-loop-holds : tie.Need-loop-holds Inv-loop μ-loop
-loop-holds c = (omega arith, record { size = refl; inside = c .before .before .take-edges .ensures .inside; past = λ i l. refl })
-
-join-through-requires : tie.Need-join-through-requires Inv-loop μ-loop
-join-through-requires c κs =
-    let start = c .before .before .before .before .before .before .before .before .before .before .before .before .before .before .before in
-    let inv = c .before .before .loop .inv in
-    ((c .before .loop-test .taken, start .pre .1 .0 .0, omega (arith, inv .1 .size, c .before .before .before .before .before .take-edges .ensures .size, c .before .before .before .before .before .before .before .before .before .set-far .ensures .0, start .pre .1 .0 .1)), square-small (edgesOf (start .args .source .now) (start .args .sink .now) (start .args .delay .now)) (c .before .before .loop .k) (inv .1))
-
-add-k : tie.Need-add-k Inv-loop μ-loop
-add-k c = omega arith
-
-loop-less : tie.Need-loop-less Inv-loop μ-loop
-loop-less c = omega arith
-
-loop-again : tie.Need-loop-again Inv-loop μ-loop
-loop-again c =
-    let start = c .before .before .before .before .before .before .before .before .before .before .before .before .before .before .before .before .before .before in
-    (omega arith, square-more (edgesOf (start .args .source .now) (start .args .sink .now) (start .args .delay .now)) (c .before .before .before .before .before .loop .k) (c .before .before .before .before .before .loop .inv .1) (c .before .before .join-through .ensures) (c .before .before .before .before .loop-test .taken))
-
-mul-widen : tie.Need-mul-widen Inv-loop μ-loop
-mul-widen c = omega (arith, product-small (c .before .before .before .before .before .before .before .before .before .before .before .before .before .before .args .tasks) (c .before .before .before .before .before .before .before .before .before .before .before .before .before .before .args .tasks) (c .before .before .before .before .before .before .before .before .before .before .before .before .before .before .pre .1 .0 .0) (c .before .before .before .before .before .before .before .before .before .before .before .before .before .before .pre .1 .0 .0))
-
-widen-requires : tie.Need-widen-requires Inv-loop μ-loop
-widen-requires c κs = omega (arith, c .before .before .loop .inv .1 .size, c .before .before .before .before .before .take-edges .ensures .size, c .before .before .before .before .before .before .before .before .before .set-far .ensures .0, c .before .before .before .before .before .before .before .before .before .before .before .before .before .before .before .pre .1 .0 .1)
-
-same-length : tie.Need-same-length Inv-loop μ-loop
-same-length c = c .before .before .widen .ensures .size ∙ (c .before .before .before .before .before .loop .inv .1 .size ∙ (c .before .before .before .before .before .before .before .before .take-edges .ensures .size ∙ c .before .before .before .before .before .before .before .before .before .before .before .before .set-far .ensures .0))
-
-returns : tie.Need-returns Inv-loop μ-loop
-returns c =
-    let start = c .before .before .before .before .before .before .before .before .before .before .before .before .before .before .before .before .before .before in
-    let n = start .args .tasks in
-    let es = edgesOf (start .args .source .now) (start .args .sink .now) (start .args .delay .now) in
-    let first = start .args .table .now in
-    let whole : c .before .before .before .before .before .loop .k ≡ n = omega arith in
-    let far = c .before .before .before .before .before .before .before .before .before .before .before .before .set-far .ensures in
-    let taken = c .before .before .before .before .before .before .before .before .take-edges .ensures in
-    let all : Square n (cappedThrough es n) first (c .before .before .before .before .before .loop .table) =
-    subst (λ (k : ℕ). Square n (cappedThrough es k) first (c .before .before .before .before .before .loop .table)) whole
-    (square-rebased n (taken .size ∙ far .0) (λ i l. taken .past i l ∙ far .1 .1 i l) (c .before .before .before .before .before .loop .inv .1)) in
-    table-finished (start .pre .1 .0 .0) (start .pre .1 .0 .1) (start .pre .1 .1) all (c .before .before .widen .ensures)
+returns : tie.Need-returns
+returns c = table-finished (c .before .before .before .before .before .before .before .before .before .before .before .before .pre .1 .0 .0) (c .before .before .before .before .before .before .before .before .before .before .before .before .pre .1 .0 .1) (c .before .before .before .before .before .before .before .before .before .before .before .before .pre .1 .1) (c .before .before .before .before .before .before .capped-table .ensures) (c .before .before .widen .ensures)
 
 pub least-table-spec : {M : Type 1} → statement M
 least-table-spec =
     tie.close
     (tie.spec
-    Inv-loop
-    μ-loop
-    mul-set-far
-    set-far-requires
-    take-edges-requires
-    loop-holds
-    join-through-requires
-    add-k
-    loop-less
-    loop-again
+    capped-table-requires
     mul-widen
     widen-requires
     same-length

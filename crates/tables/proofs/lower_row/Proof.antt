@@ -5,7 +5,7 @@ use Prim.Native.Nat.{ℕ, _+_, _-_, _≤_, _<_, min}
 use native.Mathlib.Omega.{arith}
 use borrow.Author.Needs.{needs}
 use lib.ListN.{length, getD}
-use Rattle.tables.proofs.Parts.{PartDone, part-none, part-next, part-more}
+use Rattle.sweeps.proofs.Parts.{PartDone, part-none, part-next, part-more}
 use Rattle.tables.proofs.lower_row.Statement.{statement}
 use Rattle.tables.proofs.lower_row.Tie as tie
 

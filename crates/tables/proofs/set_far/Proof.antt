@@ -3,7 +3,7 @@ use mathlib.Core.Path.{refl}
 use Prim.Native.Nat.{_-_, _≤_, _<_}
 use native.Mathlib.Omega.{arith}
 use lib.ListN.{length}
-use Rattle.tables.proofs.Parts.{PartDone, part-none, part-more, front-done, front-rest}
+use Rattle.sweeps.proofs.Parts.{PartDone, part-none, part-more, front-done, front-rest}
 use Rattle.tables.proofs.set_far.Statement.{statement}
 use Rattle.tables.proofs.set_far.Tie as tie
 

@@ -6,7 +6,8 @@ use borrow.Author.Needs.{needs}
 use lib.ListN.{length, getD}
 use Rattle.records.proofs.Rows.{place-within, place-small}
 use Rattle.tables.specs.Tables.{Square}
-use Rattle.tables.proofs.Rounds.{fit-at, firstEdges, edges-none, edges-more, edges-all}
+use Rattle.sweeps.proofs.Over.{fit-at}
+use Rattle.tables.proofs.Rounds.{firstEdges, edges-none, edges-more, edges-all}
 use Rattle.tables.proofs.take_edges.Statement.{statement}
 use Rattle.tables.proofs.take_edges.Tie as tie
 

@@ -5,7 +5,7 @@ use native.Mathlib.Omega.{arith}
 use lib.ListN.{length, getD}
 use borrow.Author.Needs.{needs}
 use Rattle.tables.specs.Tables.{widened}
-use Rattle.tables.proofs.Parts.{PartDone, part-none, part-next, part-more, front-done, front-rest}
+use Rattle.sweeps.proofs.Parts.{PartDone, part-none, part-next, part-more, front-done, front-rest}
 use Rattle.tables.proofs.widen.Statement.{statement}
 use Rattle.tables.proofs.widen.Tie as tie
 

@@ -1,11 +1,11 @@
--- `tables::copy_row` meets its contract: after b steps b entries are copied.
+-- `sweeps::copy_row` meets its contract: after b steps b entries are copied.
 use mathlib.Core.Path.{refl}
 use Prim.Native.Nat.{_+_, _-_, _≤_, _<_}
 use native.Mathlib.Omega.{arith}
 use lib.ListN.{length, getD}
-use Rattle.tables.proofs.Parts.{PartDone, part-none, part-more, front-done}
-use Rattle.tables.proofs.copy_row.Statement.{statement}
-use Rattle.tables.proofs.copy_row.Tie as tie
+use Rattle.sweeps.proofs.Parts.{PartDone, part-none, part-more, front-done}
+use Rattle.sweeps.proofs.copy_row.Statement.{statement}
+use Rattle.sweeps.proofs.copy_row.Tie as tie
 
 abbrev Inv-loop : tie.InvT-loop
 Inv-loop table at count row₀ b₀ row b = (b ≤ count) × PartDone 0 b (λ i. getD table (at + i) 0) row₀ row

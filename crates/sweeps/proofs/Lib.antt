@@ -1,0 +1,6 @@
+-- The proofs that other crates may cite.
+pub mod Parts
+mod Rows
+pub mod Over
+mod Looks
+mod Settled

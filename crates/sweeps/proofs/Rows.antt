@@ -1,0 +1,121 @@
+-- Steps of the loops over rows and edges.
+use mathlib.Core.Path.{_≡_, sym, ap, _∙_, subst}
+use mathlib.Core.Logic.{_⊎_, inl, inr}
+use mathlib.Core.List.{List}
+use Prim.Native.Nat.{ℕ, _+_, _-_, _*_, _≤_, _<_, max}
+use native.Mathlib.Nat.{not-suc-le-zero}
+use native.Mathlib.Omega.{arith}
+use lib.ListN.{length, getD, set, replicate, length-set, length-replicate, getD-replicate}
+use lib.Seq.{getD-set-same, getD-set-other}
+use Rattle.model.proofs.Basics.{order}
+use Rattle.model.proofs.Tests.{decided, eqb-decides}
+use Rattle.records.specs.Nexts.{FirstOn}
+use Rattle.records.proofs.Nexts.{firsts-more}
+use Rattle.sweeps.specs.Sweeps.{rowAt, Chained, Followed}
+
+-- ── Chains ──
+
+pub chained-none :
+    (source : List ℕ) {first next : List ℕ} → length source ≤ 576 → first ≡ replicate 256 576 → length next ≡ 576 → Chained source (length source) first next
+chained-none source {first} few blank room = record {
+  firsts = record {
+    room = ap length blank ∙ length-replicate {A = ℕ} 256 576;
+    each = λ p l.
+        let entry : getD first p 0 ≡ 576 = ap (λ (xs : List ℕ). getD xs p 0) blank ∙ getD-replicate {A = ℕ} 256 p 576 0 l in
+        record {
+          later = omega arith;
+          on = λ b. absurd (omega arith);
+          none-between = λ k from to b e. absurd (omega arith);
+        };
+  };
+  room = room;
+  links = λ i from b. absurd (omega arith);
+}
+
+-- one edge more, before the others
+pub chained-more :
+    {source : List ℕ} {v w : ℕ} → w ≡ v + 1 → v < length source → getD source v 0 < 256 → length source ≤ 576 → {first next : List ℕ} → Chained source w first next
+    → Chained source v (set first (getD source v 0) v) (set next v (getD first (getD source v 0) 0))
+chained-more {source} {v} {w} next-number below small few {first} {next} later = record {
+  firsts = firsts-more next-number below small (later .firsts);
+  room = length-set next v (getD first (getD source v 0) 0) ∙ later .room;
+  links = λ u from b. go u b (order w u) from;
+}
+  where
+    go : (u : ℕ) → u < length source → (w ≤ u) ⊎ (u < w) → v ≤ u
+        → FirstOn source (getD source u 0) (u + 1) (getD (set next v (getD first (getD source v 0) 0)) u 0)
+    go u b (inl l) from =
+        subst (λ (r : ℕ). FirstOn source (getD source u 0) (u + 1) r)
+        (sym (getD-set-other next v u (getD first (getD source v 0) 0) 0 (λ e. omega arith)))
+        (later .links u l b)
+    go u b (inr l) from =
+        let same : v ≡ u = omega arith in
+        let here : FirstOn source (getD source v 0) (v + 1) (getD first (getD source v 0) 0)
+        = subst (λ (m : ℕ). FirstOn source (getD source v 0) m (getD first (getD source v 0) 0)) next-number (later .firsts .each (getD source v 0) small) in
+        subst (λ (x : ℕ). FirstOn source (getD source x 0) (x + 1) (getD (set next v (getD first (getD source v 0) 0)) x 0)) same
+        (subst (λ (r : ℕ). FirstOn source (getD source v 0) (v + 1) r)
+        (sym (getD-set-same next v (getD first (getD source v 0) 0) 0 (omega (arith, later .room)))) here)
+
+-- ── Followers ──
+
+pub followed-none : (source sink : List ℕ) {follows : List ℕ} → length follows ≡ 4096 → Followed source sink 0 follows
+followed-none source sink size = record { size = size; marked = λ j l. absurd (not-suc-le-zero l) }
+
+-- a mark more takes none away
+mark-kept : (xs : List ℕ) (p i : ℕ) → p < length xs → 1 ≤ getD xs i 0 → 1 ≤ getD (set xs p 1) i 0
+mark-kept xs p i inside held = go (decided (eqb-decides i p))
+  where
+    go : (i ≡ p) ⊎ (i ≡ p → ⊥) → 1 ≤ getD (set xs p 1) i 0
+    go (inl same) =
+        let one : getD (set xs p 1) i 0 ≡ 1 = ap (λ (j : ℕ). getD (set xs p 1) j 0) same ∙ getD-set-same xs p 1 0 inside in
+        omega arith
+    go (inr other) = let kept = getD-set-other xs p i 1 0 other in omega arith
+
+pub followed-more :
+    {source sink : List ℕ} (j : ℕ) {follows : List ℕ} → getD source j 0 < 64 → getD sink j 0 < 64 → Followed source sink j follows
+    → Followed source sink (j + 1) (set follows (getD sink j 0 * 64 + getD source j 0) 1)
+followed-more {source} {sink} j {follows} from to held = record {
+  size = length-set follows p 1 ∙ held .size;
+  marked = λ k l. go k l (order j k);
+}
+  where
+    p : ℕ
+    p = getD sink j 0 * 64 + getD source j 0
+
+    inside : p < length follows
+    inside = omega (arith, held .size)
+
+    go : (k : ℕ) → k < j + 1 → (j ≤ k) ⊎ (k < j) → 1 ≤ rowAt (set follows p 1) (getD sink k 0) (getD source k 0)
+    go k l (inl last) =
+        let same : j ≡ k = omega arith in
+        let one : getD (set follows p 1) p 0 ≡ 1 = getD-set-same follows p 1 0 inside in
+        subst (λ (x : ℕ). 1 ≤ rowAt (set follows p 1) (getD sink x 0) (getD source x 0)) same (omega arith)
+    go k l (inr earlier) = mark-kept follows p (getD sink k 0 * 64 + getD source k 0) inside (held .marked k earlier)
+
+-- ── A row stored ──
+
+-- The first k entries of a row are in the place of others, none of them lower; the number is 0 as long as they are the same.
+pub record Falls (row : List ℕ) (at : ℕ) (before : List ℕ) (k fall : ℕ) : Type 0 where
+  pub still : fall ≡ 0 → (b : ℕ) → b < k → getD row b 0 ≡ getD before (at + b) 0
+  pub fell : 1 ≤ fall → (b : ℕ) × (b < k) × (getD row b 0 < getD before (at + b) 0)
+
+pub falls-none : (row : List ℕ) (at : ℕ) (before : List ℕ) → Falls row at before 0 0
+falls-none row at before = record { still = λ q b l. absurd (not-suc-le-zero l); fell = λ l. absurd (not-suc-le-zero l) }
+
+pub falls-more :
+    {row : List ℕ} {at : ℕ} {before : List ℕ} (now : List ℕ) {k fall next : ℕ} → Falls row at before k fall → getD now (at + k) 0 ≡ getD before (at + k) 0
+    → getD row k 0 ≤ getD before (at + k) 0 → next ≡ max fall (getD now (at + k) 0 - getD row k 0) → Falls row at before (k + 1) next
+falls-more {row} {at} {before} now {k} {fall} {next} held kept low is = record {
+  still = λ q b l. same b l (omega arith) (omega arith) (order k b);
+  fell = λ q. found (order 1 fall) q;
+}
+  where
+    same : (b : ℕ) → b < k + 1 → fall ≡ 0 → getD row k 0 ≡ getD before (at + k) 0 → (k ≤ b) ⊎ (b < k) → getD row b 0 ≡ getD before (at + b) 0
+    same b l none here (inl last) =
+        let at-k : k ≡ b = omega arith in
+        subst (λ (x : ℕ). getD row x 0 ≡ getD before (at + x) 0) at-k here
+    same b l none here (inr earlier) = held .still none b earlier
+
+    found : (1 ≤ fall) ⊎ (fall < 1) → 1 ≤ next → (b : ℕ) × (b < k + 1) × (getD row b 0 < getD before (at + b) 0)
+    found (inl before-this) q = let f = held .fell before-this in (f .0, omega (arith, f .1), f .2)
+    found (inr none) q = (k, omega arith, omega arith)
