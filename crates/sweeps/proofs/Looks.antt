@@ -1,4 +1,4 @@
--- A look at a task: its row is lowered over its edges and stored, so that these are eased; if it changed, the sources of the edges to it are marked,
+-- A look at a task: its row is lowered over its edges and stored, so that these better no path; if it changed, the sources of the edges to it are marked,
 -- and the sum of the table is smaller.
 use mathlib.Core.Path.{_≡_, refl, sym, ap, _∙_, subst}
 use mathlib.Core.Logic.{_⊎_, inl, inr}
@@ -15,7 +15,7 @@ use Rattle.model.proofs.Tests.{decided, eqb-decides}
 use Rattle.records.specs.Columns.{heldEdge, edgesOf}
 use Rattle.records.proofs.Edges.{edge-out}
 use Rattle.delays.specs.Delays.{Fit}
-use Rattle.sweeps.specs.Sweeps.{rowAt, sum, Held, Sound, Eased, Going, Fallen, Followed, RowOver, Stored, Looked, Swept}
+use Rattle.sweeps.specs.Sweeps.{rowAt, sum, Held, Sound, Eased, Idle, Going, Fallen, Followed, RowOver, Stored, Looked, Swept}
 use Rattle.sweeps.proofs.Over.{held-is}
 
 -- ── Sums ──
@@ -109,10 +109,10 @@ module _
             subst (λ (y : ℕ). Held (edgesOf source sink delay) y b (rowAt after y b)) (sym same) (held-is (own-row b l) (over .held b l))
         go x b k l (inr other) = held-is (other-row x b other l) (going .sound .held x b k l)
 
-    -- the edges out of the task are eased
-    eased-own : (e : Edge) → e ∈ edgesOf source sink delay → e .source ≡ a → Eased after e
+    -- the edges out of the task better no path
+    idle-own : (e : Edge) → e ∈ edgesOf source sink delay → e .source ≡ a → Idle after e
     unfolding heldEdge
-    eased-own e m own b l = go (decided (eqb-decides (e .sink) a))
+    idle-own e m own = known (over .eased j (place .1) (place .1) (sym from ∙ own))
       where
         place : (j : ℕ) × (j < length source) × (e ≡ heldEdge source sink delay j)
         place = edge-out source sink delay e m
@@ -129,25 +129,40 @@ module _
         turns : e .delay ≡ getD delay j 0
         turns = ap (λ (x : Edge). x .delay) (place .2)
 
-        mine : rowAt after (e .source) b ≡ getD row b 0
-        mine = ap (λ (x : ℕ). rowAt after x b) own ∙ own-row b l
+        eased : ((b : ℕ) → b < 64 → getD row b 0 ≤ getD delay j 0 + rowAt table (getD sink j 0) b) → Eased after e
+        eased all b l = go (decided (eqb-decides (e .sink) a))
+          where
+            mine : rowAt after (e .source) b ≡ getD row b 0
+            mine = ap (λ (x : ℕ). rowAt after x b) own ∙ own-row b l
 
-        low : getD row b 0 ≤ getD delay j 0 + rowAt table (e .sink) b
-        low = subst (λ (x : ℕ). getD row b 0 ≤ getD delay j 0 + rowAt table x b) to (over .eased j (place .1) (place .1) (sym from ∙ own) b l)
+            low : getD row b 0 ≤ getD delay j 0 + rowAt table (e .sink) b
+            low = subst (λ (x : ℕ). getD row b 0 ≤ getD delay j 0 + rowAt table x b) to (all b l)
 
-        go : (e .sink ≡ a) ⊎ (e .sink ≡ a → ⊥) → rowAt after (e .source) b ≤ e .delay + rowAt after (e .sink) b
-        go (inl back) =
-            let same : rowAt after (e .source) b ≡ rowAt after (e .sink) b = ap (λ (x : ℕ). rowAt after x b) (own ∙ sym back) in
-            omega arith
-        go (inr other) = let kept = other-row (e .sink) b other l in omega (arith, mine, low, turns)
+            go : (e .sink ≡ a) ⊎ (e .sink ≡ a → ⊥) → rowAt after (e .source) b ≤ e .delay + rowAt after (e .sink) b
+            go (inl back) =
+                let same : rowAt after (e .source) b ≡ rowAt after (e .sink) b = ap (λ (x : ℕ). rowAt after x b) (own ∙ sym back) in
+                omega arith
+            go (inr other) = let kept = other-row (e .sink) b other l in omega (arith, mine, low, turns)
 
-    -- others, of which no end is the task, are as before
-    eased-other : (e : Edge) → (e .source ≡ a → ⊥) → (e .sink ≡ a → ⊥) → Eased table e → Eased after e
-    eased-other e from to old b l =
+        known :
+            ((b : ℕ) → b < 64 → getD row b 0 ≤ getD delay j 0 + rowAt table (getD sink j 0) b) ⊎ (rowAt table a (getD sink j 0) < getD delay j 0)
+            → Idle after e
+        known (inl all) = inl (eased all)
+        known (inr shorter) =
+            let low = row-low (e .source) (e .sink) (fit .ends e m .1) in
+            let there : rowAt table (e .source) (e .sink) < getD delay j 0 =
+            subst (λ (x : ℕ). rowAt table x (e .sink) < getD delay j 0) (sym own) (subst (λ (y : ℕ). rowAt table a y < getD delay j 0) to shorter) in
+            inr (omega (arith, low, there, turns))
+
+    -- others, of which no end is the task, neither
+    idle-other : (e : Edge) → e ∈ edgesOf source sink delay → (e .source ≡ a → ⊥) → (e .sink ≡ a → ⊥) → Idle table e → Idle after e
+    idle-other e m from to (inl old) =
+        inl (λ b l.
         let first = other-row (e .source) b from l in
         let second = other-row (e .sink) b to l in
         let was = old b l in
-        omega arith
+        omega arith)
+    idle-other e m from to (inr shorter) = let low = row-low (e .source) (e .sink) (fit .ends e m .1) in inr (omega arith)
 
     -- nothing changed
     pub look-still : fall ≡ 0 → Looked (edgesOf source sink delay) a table stale after (set stale a 0) false
@@ -174,10 +189,10 @@ module _
                 at-row b l is = subst (λ (x : ℕ). getD after x 0 ≡ getD table x 0) is (stored .inside b l ∙ stored .still none b l)
 
         edge :
-            (e : Edge) → e ∈ edgesOf source sink delay → (e .source ≡ a) ⊎ (e .source ≡ a → ⊥) → Eased table e ⊎ (1 ≤ getD stale (e .source) 0)
-            → Eased after e ⊎ (1 ≤ getD (set stale a 0) (e .source) 0)
-        edge e m (inl own) old = inl (eased-own e m own)
-        edge e m (inr other) (inl eased) = inl (subst (λ (xs : List ℕ). Eased xs e) (sym whole) eased)
+            (e : Edge) → e ∈ edgesOf source sink delay → (e .source ≡ a) ⊎ (e .source ≡ a → ⊥) → Idle table e ⊎ (1 ≤ getD stale (e .source) 0)
+            → Idle after e ⊎ (1 ≤ getD (set stale a 0) (e .source) 0)
+        edge e m (inl own) old = inl (idle-own e m own)
+        edge e m (inr other) (inl idle) = inl (subst (λ (xs : List ℕ). Idle xs e) (sym whole) idle)
         edge e m (inr other) (inr mark) = let same = getD-set-other stale a (e .source) 0 0 other in inr (omega arith)
 
         kept : (x : ℕ) → getD stale x 0 ≡ 0 → (x ≡ a) ⊎ (x ≡ a → ⊥) → getD (set stale a 0) x 0 ≡ 0
@@ -221,8 +236,8 @@ module _
 
         edge :
             (e : Edge) → e ∈ edgesOf source sink delay → (e .source ≡ a) ⊎ (e .source ≡ a → ⊥) → (e .sink ≡ a) ⊎ (e .sink ≡ a → ⊥)
-            → Eased table e ⊎ (1 ≤ getD stale (e .source) 0) → Eased after e ⊎ (1 ≤ getD marked (e .source) 0)
-        edge e m (inl own) to old = inl (eased-own e m own)
+            → Idle table e ⊎ (1 ≤ getD stale (e .source) 0) → Idle after e ⊎ (1 ≤ getD marked (e .source) 0)
+        edge e m (inl own) to old = inl (idle-own e m own)
         edge e m (inr other) (inl into) old =
             let place = edge-out source sink delay e m in
             let j = place .0 in
@@ -232,7 +247,7 @@ module _
             subst (λ (x : ℕ). 1 ≤ rowAt follows a x) from (subst (λ (x : ℕ). 1 ≤ rowAt follows x (getD source j 0)) to (followed .marked j (place .1))) in
             let is = each (e .source) (fit .ends e m .0) in
             inr (omega arith)
-        edge e m (inr other) (inr away) (inl eased) = inl (eased-other e other away eased)
+        edge e m (inr other) (inr away) (inl idle) = inl (idle-other e m other away idle)
         edge e m (inr other) (inr away) (inr mark) =
             let same = getD-set-other stale a (e .source) 0 0 other in
             let is = each (e .source) (fit .ends e m .0) in

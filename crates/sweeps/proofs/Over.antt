@@ -14,7 +14,7 @@ use Rattle.records.specs.Columns.{heldEdge, edgesOf}
 use Rattle.records.specs.Nexts.{FirstOn}
 use Rattle.records.proofs.Edges.{edge-in}
 use Rattle.delays.specs.Delays.{Fit}
-use Rattle.sweeps.specs.Sweeps.{rowAt, Held, Sound, LoweredTo, RowOver}
+use Rattle.sweeps.specs.Sweeps.{rowAt, Held, Sound, LoweredTo, LoweredBy, RowOver}
 
 -- ends and delay of an edge of three lists
 pub fit-at :
@@ -52,35 +52,62 @@ module _ (source sink delay : List ℕ) {a : ℕ} {table : List ℕ} (inner : a 
     eased = λ j before l own. absurd (first .none-between j (omega arith) before l own);
   }
 
-  pub over-more :
-      {i k : ℕ} {row next : List ℕ} → Fit 64 (edgesOf source sink delay) → RowOver source sink delay a i table row → i < length source → getD source i 0 ≡ a
-      → FirstOn source (getD source i 0) (i + 1) k → LoweredTo (getD delay i 0) table (getD sink i 0 * 64) row next → RowOver source sink delay a k table next
-  unfolding heldEdge
-  over-more {i} {k} {row} {next} fit over inside own link lowered = record {
-    size = lowered .size;
-    held = λ b l. held-is (lowered .each b l) (held-lesser (over .held b l) (λ few. way b l few));
-    low = λ b l. let is = lowered .each b l in let old = over .low b l in omega arith;
-    eased = λ j before l from b m. go j l from b m (order j i) (order i j) before;
-  }
+  module _
+      {i k : ℕ} {row : List ℕ} (fit : Fit 64 (edgesOf source sink delay)) (over : RowOver source sink delay a i table row) (inside : i < length source)
+      (own : getD source i 0 ≡ a) (link : FirstOn source (getD source i 0) (i + 1) k)
     where
-      ends : (getD source i 0 < 64) × (getD sink i 0 < 64) × (getD delay i 0 ≤ 255)
-      ends = fit-at source sink delay i fit inside
+      -- an edge that is longer than a known way
+      over-skipped : rowAt table a (getD sink i 0) < getD delay i 0 → RowOver source sink delay a k table row
+      over-skipped shorter = record {
+        size = over .size;
+        held = over .held;
+        low = over .low;
+        eased = λ j before l from. go j l from (order j i) (order i j) before;
+      }
+        where
+          go : (j : ℕ) → j < length source → getD source j 0 ≡ a → (j ≤ i) ⊎ (i < j) → (i ≤ j) ⊎ (j < i) → j < k
+              → ((b : ℕ) → b < 64 → getD row b 0 ≤ getD delay j 0 + rowAt table (getD sink j 0) b) ⊎ (rowAt table a (getD sink j 0) < getD delay j 0)
+          go j l from (inr later) other before = absurd (link .none-between j (omega arith) before l (from ∙ sym own))
+          go j l from (inl at-most) (inr earlier) before = over .eased j earlier l from
+          go j l from (inl at-most) (inl at-least) before =
+              let same : i ≡ j = omega arith in
+              inr (subst (λ (x : ℕ). rowAt table a (getD sink x 0) < getD delay x 0) same shorter)
 
-      way : (b : ℕ) → b < 64 → getD delay i 0 + rowAt table (getD sink i 0) b < 32767 → Path (edgesOf source sink delay) a b (getD delay i 0 + rowAt table (getD sink i 0) b)
-      way b l few =
-          path-append (path-ends own refl (path-edge (edge-in source sink delay i inside))) (sound .held (getD sink i 0) b (ends .1) l .path (omega arith))
+      over-lowered : {next : List ℕ} → LoweredTo (getD delay i 0) table (getD sink i 0 * 64) row next → RowOver source sink delay a k table next
+      unfolding heldEdge
+      over-lowered {next} lowered = record {
+        size = lowered .size;
+        held = λ b l. held-is (lowered .each b l) (held-lesser (over .held b l) (λ few. way b l few));
+        low = λ b l. let is = lowered .each b l in let old = over .low b l in omega arith;
+        eased = λ j before l from. go j l from (order j i) (order i j) before;
+      }
+        where
+          ends : (getD source i 0 < 64) × (getD sink i 0 < 64) × (getD delay i 0 ≤ 255)
+          ends = fit-at source sink delay i fit inside
 
-      go : (j : ℕ) → j < length source → getD source j 0 ≡ a → (b : ℕ) → b < 64 → (j ≤ i) ⊎ (i < j) → (i ≤ j) ⊎ (j < i) → j < k
-          → getD next b 0 ≤ getD delay j 0 + rowAt table (getD sink j 0) b
-      go j l from b m (inr later) other before = absurd (link .none-between j (omega arith) before l (from ∙ sym own))
-      go j l from b m (inl at-most) (inr earlier) before =
-          let is = lowered .each b m in
-          let old = over .eased j earlier l from b m in
-          omega arith
-      go j l from b m (inl at-most) (inl at-least) before =
-          let same : i ≡ j = omega arith in
-          let is = lowered .each b m in
-          subst (λ (x : ℕ). getD next b 0 ≤ getD delay x 0 + rowAt table (getD sink x 0) b) same (omega arith)
+          way : (b : ℕ) → b < 64 → getD delay i 0 + rowAt table (getD sink i 0) b < 32767 → Path (edgesOf source sink delay) a b (getD delay i 0 + rowAt table (getD sink i 0) b)
+          way b l few =
+              path-append (path-ends own refl (path-edge (edge-in source sink delay i inside))) (sound .held (getD sink i 0) b (ends .1) l .path (omega arith))
+
+          still :
+              (j : ℕ) → ((b : ℕ) → b < 64 → getD row b 0 ≤ getD delay j 0 + rowAt table (getD sink j 0) b) ⊎ (rowAt table a (getD sink j 0) < getD delay j 0)
+              → ((b : ℕ) → b < 64 → getD next b 0 ≤ getD delay j 0 + rowAt table (getD sink j 0) b) ⊎ (rowAt table a (getD sink j 0) < getD delay j 0)
+          still j (inl eased) = inl (λ b m. let is = lowered .each b m in let old = eased b m in omega arith)
+          still j (inr shorter) = inr shorter
+
+          go : (j : ℕ) → j < length source → getD source j 0 ≡ a → (j ≤ i) ⊎ (i < j) → (i ≤ j) ⊎ (j < i) → j < k
+              → ((b : ℕ) → b < 64 → getD next b 0 ≤ getD delay j 0 + rowAt table (getD sink j 0) b) ⊎ (rowAt table a (getD sink j 0) < getD delay j 0)
+          go j l from (inr later) other before = absurd (link .none-between j (omega arith) before l (from ∙ sym own))
+          go j l from (inl at-most) (inr earlier) before = still j (over .eased j earlier l from)
+          go j l from (inl at-most) (inl at-least) before =
+              let same : i ≡ j = omega arith in
+              inl (λ b m. let is = lowered .each b m in
+              subst (λ (x : ℕ). getD next b 0 ≤ getD delay x 0 + rowAt table (getD sink x 0) b) same (omega arith))
+
+      pub over-more :
+          {next : List ℕ} → LoweredBy (getD delay i 0) (rowAt table a (getD sink i 0)) table (getD sink i 0 * 64) row next → RowOver source sink delay a k table next
+      over-more (inl lowered) = over-lowered lowered
+      over-more (inr skipped) = subst (λ (xs : List ℕ). RowOver source sink delay a k table xs) (sym (skipped .1)) (over-skipped (skipped .0))
 
   pub over-all : {i : ℕ} {row : List ℕ} → RowOver source sink delay a i table row → length source ≤ i → RowOver source sink delay a (length source) table row
   over-all over past = record { size = over .size; held = over .held; low = over .low; eased = λ j before l. over .eased j (omega arith) l }

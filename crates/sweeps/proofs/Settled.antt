@@ -1,14 +1,18 @@
--- Where no mark is left every edge is eased, so no path betters its entry: by induction along the path.
+-- Where no mark is left no edge betters a path, so no path betters its entry: by induction on its delay, and along it.
 use mathlib.Core.Path.{_≡_, refl, sym, ap, _∙_, subst}
 use mathlib.Core.Logic.{_⊎_, inl, inr}
 use mathlib.Core.Bool.{Bool, true, false, true≢false}
 use mathlib.Core.List.{List, _∷_}
-use Prim.Native.Nat.{ℕ, suc, _+_, _≤_, _<_}
+use native.Mathlib.Nat.{not-suc-le-zero}
+use Prim.Native.Nat.{ℕ, zero, suc, _+_, _≤_, _<_}
 use native.Mathlib.Omega.{arith}
 use lib.ListN.{length, getD, replicate, length-replicate, getD-replicate}
 use Rattle.model.specs.Tasks.{Edge, _∈_, Ends}
-use Rattle.model.specs.Paths.{total, Walk, stop, step}
-use Rattle.sweeps.specs.Sweeps.{rowAt, sum, Lowest, Sound, Eased, Going, Fallen}
+use Rattle.model.specs.Paths.{total, Walk, stop, step, Path}
+use Rattle.model.proofs.Walks.{path-append}
+use Rattle.delays.specs.Delays.{Fit}
+use Rattle.sweeps.specs.Sweeps.{rowAt, sum, Lowest, Sound, Idle, Going, Fallen}
+use Rattle.sweeps.proofs.Over.{fit-wide}
 
 -- every task is marked at first
 pub going-start : {es : List Edge} {table stale : List ℕ} → Ends 64 es → Sound es table → stale ≡ replicate 64 1 → Going es table stale
@@ -20,30 +24,50 @@ going-start {stale = stale} ends sound all = record {
       inr (omega arith);
 }
 
-module _ {es : List Edge} {table : List ℕ} (sound : Sound es table) (eased : (e : Edge) → e ∈ es → Eased table e) where
-  reach : {a b : ℕ} {e : Edge} {p : List Edge} → b < 64 → e ∈ es → e .source ≡ a → Walk es (e .sink) p b → rowAt table a b ≤ e .delay + total p
+module _ {es : List Edge} {table : List ℕ} (fit : Fit 64 es) (sound : Sound es table) (idle : (e : Edge) → e ∈ es → Idle table e) where
+  -- Along a path whose delay is at most m, if no path of delay below m betters its entry. An edge that is longer than the delay between its ends is replaced by
+  -- the path that has it: the whole path becomes shorter.
+  along :
+      (m : ℕ) → ((c b d : ℕ) → b < 64 → Path es c b d → d < m → rowAt table c b ≤ d) → {a b : ℕ} {e : Edge} {p : List Edge} → b < 64 → e ∈ es
+      → e .source ≡ a → Walk es (e .sink) p b → e .delay + total p < suc m → rowAt table a b ≤ e .delay + total p
   unfolding total
-  reach {b = b} {e = e} l m s (stop q) =
-      let low = sound .direct e m in
+  along m shorter {b = b} {e = e} l k s (stop q) less =
+      let low = sound .direct e k in
       subst (λ (x : ℕ). rowAt table x b ≤ e .delay + 0) s (subst (λ (y : ℕ). rowAt table (e .source) y ≤ e .delay + 0) q (omega arith))
-  reach {b = b} {e = e} l m s (step {e = f} {p = p} k t w) =
-      let rest : rowAt table (e .sink) b ≤ f .delay + total p = reach l k t w in
-      let low = eased e m b l in
-      subst (λ (x : ℕ). rowAt table x b ≤ e .delay + (f .delay + total p)) s (omega arith)
+  along m shorter {a} {b} {e} l k s (step {e = f} {p = p} k′ t w) less =
+      subst (λ (x : ℕ). rowAt table x b ≤ e .delay + (f .delay + total p)) s
+      (go (idle e k) (along m shorter l k′ t w (omega arith)) (λ d r small. shorter (e .source) b d l r small))
+    where
+      go : Idle table e → rowAt table (e .sink) b ≤ f .delay + total p → ((d : ℕ) → Path es (e .source) b d → d < m → rowAt table (e .source) b ≤ d)
+          → rowAt table (e .source) b ≤ e .delay + (f .delay + total p)
+      go (inl eased) rest below = let low = eased b l in omega arith
+      go (inr beaten) rest below =
+          let ends = fit .ends e k in
+          let few = fit .delays e k in
+          let first = sound .held (e .source) (e .sink) (ends .0) (ends .1) .path (omega arith) in
+          let other : Path es (e .sink) b (f .delay + total p) = record { first = f; rest = p; walk = step k′ t w; sum = refl } in
+          let low = below (rowAt table (e .source) (e .sink) + (f .delay + total p)) (path-append first other) (omega arith) in
+          omega arith
 
-  from : {a b : ℕ} {e : Edge} {p : List Edge} → b < 64 → Walk es a (e ∷ p) b → rowAt table a b ≤ total (e ∷ p)
+  below : (m : ℕ) {a b d : ℕ} → b < 64 → Path es a b d → d < m → rowAt table a b ≤ d
   unfolding total
-  from l (step m s w) = reach l m s w
+  below zero l r less = absurd (not-suc-le-zero less)
+  below (suc m) {a} {b} {d} l r less = subst (λ (x : ℕ). rowAt table a b ≤ x) (r .sum) (from (r .walk) (subst (λ (x : ℕ). x < suc m) (sym (r .sum)) less) (λ c x y h q k. below m h q k))
+    where
+      from : {e : Edge} {p : List Edge} → Walk es a (e ∷ p) b → total (e ∷ p) < suc m → ((c b d : ℕ) → b < 64 → Path es c b d → d < m → rowAt table c b ≤ d)
+          → rowAt table a b ≤ total (e ∷ p)
+      from (step k s w) h shorter = along m shorter l k s w h
 
   lowest : (a b : ℕ) → a < 64 → b < 64 → Lowest es a b (rowAt table a b)
-  lowest a b k l = record { held = sound .held a b k l; least = λ d r. subst (λ (x : ℕ). rowAt table a b ≤ x) (r .sum) (from l (r .walk)) }
+  lowest a b k l = record { held = sound .held a b k l; least = λ d r. below (suc d) l r (omega arith) }
 
 pub settled :
-    {es : List Edge} {n : ℕ} {table stale : List ℕ} → Ends n es → Going es table stale → ((x : ℕ) → x < n → getD stale x 0 ≡ 0)
+    {es : List Edge} {n : ℕ} {table stale : List ℕ} → n ≤ 64 → Fit n es → Going es table stale → ((x : ℕ) → x < n → getD stale x 0 ≡ 0)
     → (a b : ℕ) → a < 64 → b < 64 → Lowest es a b (rowAt table a b)
-settled {es} {table = table} {stale} ends going clear = lowest (going .sound) (λ e m. go e (going .edges e m) (clear (e .source) (ends e m .0)))
+settled {es} {table = table} {stale} few fit going clear =
+    lowest (fit-wide few fit) (going .sound) (λ e m. go e (going .edges e m) (clear (e .source) (fit .ends e m .0)))
   where
-    go : (e : Edge) → Eased table e ⊎ (1 ≤ getD stale (e .source) 0) → getD stale (e .source) 0 ≡ 0 → Eased table e
+    go : (e : Edge) → Idle table e ⊎ (1 ≤ getD stale (e .source) 0) → getD stale (e .source) 0 ≡ 0 → Idle table e
     go e (inl held) none = held
     go e (inr mark) none = absurd (omega arith)
 

@@ -39,11 +39,15 @@ pub record Sound (es : List Edge) (table : List ℕ) : Type 0 where
 abbrev pub Eased : List ℕ → Edge → Type 0
 Eased table e = (b : ℕ) → b < 64 → rowAt table (e .source) b ≤ e .delay + rowAt table (e .sink) b
 
--- each edge is eased, or its source is marked to be looked at
+-- an edge betters no path: it is eased, or its ends have a smaller delay than the edge
+abbrev pub Idle : List ℕ → Edge → Type 0
+Idle table e = Eased table e ⊎ (rowAt table (e .source) (e .sink) < e .delay)
+
+-- each edge betters no path, or its source is marked to be looked at
 pub record Going (es : List Edge) (table stale : List ℕ) : Type 0 where
   pub sound : Sound es table
   pub marks : length stale ≡ 64
-  pub edges : (e : Edge) → e ∈ es → Eased table e ⊎ (1 ≤ getD stale (e .source) 0)
+  pub edges : (e : Edge) → e ∈ es → Idle table e ⊎ (1 ≤ getD stale (e .source) 0)
 
 -- A table after some steps is the one before them, or has a smaller sum; the flag says which.
 pub record Fallen (before after : List ℕ) (changed : Bool) : Type 0 where
@@ -66,12 +70,18 @@ pub record LoweredTo (way : ℕ) (table : List ℕ) (from : ℕ) (before after :
   pub size : length after ≡ 64
   pub each : (b : ℕ) → b < 64 → getD after b 0 ≡ min (getD before b 0) (way + getD table (from + b) 0)
 
--- The row of task a, lowered over the first edges, so many, that lead out of it.
+-- the same, unless the way is longer than one that is known
+abbrev pub LoweredBy : ℕ → ℕ → List ℕ → ℕ → List ℕ → List ℕ → Type 0
+LoweredBy way known table from before after = LoweredTo way table from before after ⊎ ((known < way) × (after ≡ before))
+
+-- The row of task a, lowered over the first edges, so many, that lead out of it and are no longer than the delay between their ends.
 pub record RowOver (source sink delay : List ℕ) (a count : ℕ) (table row : List ℕ) : Type 0 where
   pub size : length row ≡ 64
   pub held : (b : ℕ) → b < 64 → Held (edgesOf source sink delay) a b (getD row b 0)
   pub low : (b : ℕ) → b < 64 → getD row b 0 ≤ rowAt table a b
-  pub eased : (j : ℕ) → j < count → j < length source → getD source j 0 ≡ a → (b : ℕ) → b < 64 → getD row b 0 ≤ getD delay j 0 + rowAt table (getD sink j 0) b
+  pub eased :
+      (j : ℕ) → j < count → j < length source → getD source j 0 ≡ a
+      → ((b : ℕ) → b < 64 → getD row b 0 ≤ getD delay j 0 + rowAt table (getD sink j 0) b) ⊎ (rowAt table a (getD sink j 0) < getD delay j 0)
 
 -- A row in the place of another from a place on, where no entry was lower; the number is 0 if they are the same.
 pub record Stored (row : List ℕ) (at : ℕ) (before after : List ℕ) (fall : ℕ) : Type 0 where

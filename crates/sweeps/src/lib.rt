@@ -1,12 +1,12 @@
 // Least delays by lowering the rows of a table along edges: the row of an edge's source to its delay and the row of its sink. A task is
-// looked at again as long as the row of one that its edges lead to has changed. Rows have room for 64 entries, so that one stays in registers
-// while the edges out of its task are gone through.
+// looked at again as long as the row of one that its edges lead to has changed; an edge that is longer than the delay between its ends by then
+// is passed over. Rows have room for 64 entries, so that one stays in registers while the edges out of its task are gone through.
 ghost use mathlib.Core.Path.{_≡_};
 ghost use Prim.Native.Nat.{ℕ, _+_, _≤_, _<_, min, max};
 ghost use lib.ListN.{length, getD, replicate};
 ghost use Rattle.records.specs.Columns.{edgesOf};
 ghost use Rattle.delays.specs.Delays.{Fit};
-ghost use Rattle.sweeps.specs.Sweeps.{rowAt, Lowest, Sound, Going, Chained, Followed, LoweredTo, RowOver, Stored, Looked, Swept};
+ghost use Rattle.sweeps.specs.Sweeps.{rowAt, Lowest, Sound, Going, Chained, Followed, LoweredTo, LoweredBy, RowOver, Stored, Looked, Swept};
 
 // One row of delays.
 struct Row {
@@ -16,7 +16,7 @@ struct Row {
 // Entries in a row.
 const WIDTH: usize = 64;
 
-// No edge: there are fewer.
+// No edge: every edge has a smaller number.
 const NO_EDGE: u16 = 576;
 
 // The smaller of two delays.
@@ -116,6 +116,18 @@ fn lower_to(way: u16, table: &[u16], from: usize, row: &mut [u16])
     }
 }
 
+// The same, unless a way is known that is shorter: then the edge is of no use.
+fn lower_by(way: u16, known: u16, table: &[u16], from: usize, row: &mut [u16])
+    requires { ⌜ (way ≤ 255) × (from + 64 ≤ length (now table)) × (length (now row) ≡ 64) ⌝ }
+    requires { ⌜ ((b : ℕ) → b < 64 → getD (now table) (from + b) 0 ≤ 32767) ⌝ }
+    ensures { λ _. ⌜ LoweredBy way known (now (table .entry)) from (now (row .entry)) (now (row .exit)) ⌝ }
+{
+    if known < way {
+        return;
+    }
+    lower_to(way, table, from, row);
+}
+
 // Stores a row in the place of another, where no entry is lower. Gives the largest fall of an entry.
 fn store_row(row: &[u16], at: usize, table: &mut [u16]) -> u16
     requires { ⌜ (length (now row) ≡ 64) × (at + 64 ≤ length (now table)) ⌝ }
@@ -152,7 +164,9 @@ fn lowered_row<'a>(
     copy_row(table, a * WIDTH, WIDTH, &mut row);
     let mut i = first[a] as usize;
     while i < source.len() {
-        lower_to(delay[i] as u16, table, sink[i] as usize * WIDTH, &mut row);
+        let s = sink[i] as usize;
+        let known = table[a * WIDTH + s];
+        lower_by(delay[i] as u16, known, table, s * WIDTH, &mut row);
         i = next[i] as usize;
     }
     Row { delay: row }

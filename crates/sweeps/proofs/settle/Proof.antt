@@ -1,4 +1,4 @@
--- `sweeps::settle` meets its contract: a sweep that changes no row leaves no task marked, so every edge is eased; the others lower the table's sum.
+-- `sweeps::settle` meets its contract: a sweep that changes no row leaves no task marked, so no edge betters a path; the others lower the table's sum.
 use mathlib.Core.Path.{_≡_, refl, sym, _∙_}
 use mathlib.Core.Bool.{false, true≢false}
 use Prim.Native.Nat.{ℕ, _<_}
@@ -68,7 +68,7 @@ same-length : tie.Need-same-length Inv-loop μ-loop
 same-length c = c .before .loop .inv .0 .sound .size ∙ sym (c .before .before .before .before .before .before .before .before .before .before .before .before .before .before .pre .1 .1 .size)
 
 returns : tie.Need-returns Inv-loop μ-loop
-returns c = (c .before .loop .inv .0 .sound .size, settled (c .before .before .before .before .before .before .before .before .before .before .before .before .before .before .pre .1 .0 .ends) (c .before .loop .inv .0) (c .before .loop .inv .1 (c .loop-test .left)))
+returns c = (c .before .loop .inv .0 .sound .size, settled (c .before .before .before .before .before .before .before .before .before .before .before .before .before .before .pre .0 .3) (c .before .before .before .before .before .before .before .before .before .before .before .before .before .before .pre .1 .0) (c .before .loop .inv .0) (c .before .loop .inv .1 (c .loop-test .left)))
 
 pub settle-spec : {M : Type 1} → statement M
 settle-spec =
