@@ -1,5 +1,5 @@
 -- What the code of `judge` finds is the judgement. The fronts of the working lists hold the graph's and the proposed edges, those of the result's lists
--- its edges, so a search in the table of their least delays finds what the tests of 13 and 14 say.
+-- its edges, so the searches by their paths and their delays find what the tests of 13 and 14 say.
 use mathlib.Core.Path.{_≡_, refl, sym, ap, _∙_, subst}
 use mathlib.Core.Logic.{_⊎_, inl, inr, _≢_}
 use mathlib.Core.Bool.{true, false, not}
@@ -22,7 +22,7 @@ use Rattle.files.specs.Files.{edgeIn, firstOf}
 use Rattle.files.proofs.First.{number-same}
 use Rattle.records.specs.Columns.{SourcesOf, SinksOf, DelaysOf, edgesOf, heldEdge, at}
 use Rattle.records.proofs.Fill.{length-tabulate}
-use Rattle.records.proofs.Edges.{edge-at, edges-of-columns}
+use Rattle.records.proofs.Edges.{edge-at, edge-in, edges-of-columns}
 use Rattle.records.proofs.Ordered.{sync-place}
 use Rattle.readings.specs.declared.GraphReading.{GraphReading}
 use Rattle.readings.specs.declared.ProposalReading.{ProposalReading}
@@ -33,11 +33,12 @@ use Rattle.delays.specs.Delays.{delayTable, Fit}
 use Rattle.starts.specs.Starts.{FileTimes}
 use Rattle.delays.proofs.Table.{table-length, table-front, table-room}
 use Rattle.schedule.proofs.Fronts.{front, frontEdges, Fronts, Within, file-times, working-is, working-within, working-few, working-square, working-fit}
+use Rattle.reach.specs.Reach.{Reaches}
 use Rattle.results.specs.declared.ResultEdges.{ResultEdges}
 use Rattle.results.specs.Results.{resultOf, HeldResult}
 use Rattle.results.proofs.Results.{result-edges-are}
 use Rattle.verdicts.specs.Verdicts.{someOnCycle, lostRefusal, judgedRefusal, timed, judgement, OpenPlace, HeldProposal, Judgeable}
-use Rattle.verdicts.specs.Tables.{TableOf, FoundCyclic, nowhere, somewhere, lostFrom}
+use Rattle.verdicts.specs.Tables.{FoundCyclic, nowhere, somewhere, lostFrom}
 use Rattle.verdicts.specs.Theorems.{FirstLost}
 use Rattle.verdicts.proofs.Chain.{stops-13, stops-14, stops-15, passed, some-found, none-found}
 use Rattle.verdicts.proofs.Tested.{result-fit, open-place, zero-cycle-false, orders-searched, search-passes, search-stops}
@@ -187,16 +188,21 @@ module _ {graph : GraphReading} {proposal : ProposalReading} {g : Graph} {propos
         subst (λ (es : List Edge). Fit (graph .tasks) es) (sym result-held)
         (subst (λ (n : ℕ). Fit n (edges (result g proposed))) (sym (graph-fronts .tasks-are)) (result-fit g proposed well (given .formed)))
 
-    -- the front of the table after it was written
-    pub table-is :
-        {table : List ℕ} (past : List ℕ) → table ≡ delayTable (graph .tasks) (frontResult r) ++ past →
-        TableOf (graph .tasks) (edges (result g proposed)) (front (graph .tasks * graph .tasks) table)
-    table-is {table} past written =
-        record {
-          fit = subst (λ (es : List Edge). Fit (graph .tasks) es) result-held held-fit;
-          least = table-front (graph .tasks) (frontResult r) past written ∙ ap (delayTable (graph .tasks)) result-held;
-        }
+    -- where the paths of the lists lead, those of the result do
+    pub result-reached : {words : List ℕ} → Reaches (graph .tasks) (frontResult r) words → Reaches (graph .tasks) (edges (result g proposed)) words
+    result-reached {words} reached = subst (λ (es : List Edge). Reaches (graph .tasks) es words) result-held reached
 
+    pub result-joins :
+        (j : ℕ) → j < length (front (r .count) (r .source)) →
+        (at (front (r .count) (r .source)) j < graph .tasks) × (at (front (r .count) (r .sink)) j < graph .tasks)
+    unfolding heldEdge at
+    result-joins j below =
+        let source = front (r .count) (r .source) in
+        let sink = front (r .count) (r .sink) in
+        let delay = front (r .count) (r .delay) in
+        held-fit .ends (heldEdge source sink delay j) (edge-in source sink delay j below)
+
+    -- the front of a table after the result's least delays were written
     pub table-within : {table : List ℕ} (past : List ℕ) → table ≡ delayTable (graph .tasks) (frontResult r) ++ past → graph .tasks * graph .tasks ≤ length table
     table-within past written = table-room (graph .tasks) (frontResult r) past written
 
@@ -262,6 +268,18 @@ module _ {graph : GraphReading} {proposal : ProposalReading} {g : Graph} {propos
   lists-lost =
       lostFrom (graph .tasks) (edges (result g proposed)) (front (graph .tasks + graph .edges) (graph .source)) (front (graph .tasks + graph .edges) (graph .sink))
       (front (graph .tasks + graph .edges) (graph .delay))
+
+  -- the search by the result's lists is that in the result
+  pub lost-in-result :
+      {r : ResultEdges} {lost : Refusal} (made : HeldResult r (resultOf (graph .tasks) (frontEdges graph) (frontProposed proposal))) →
+      lost ≡
+      lostFrom (graph .tasks) (frontResult r) (front (graph .tasks + graph .edges) (graph .source)) (front (graph .tasks + graph .edges) (graph .sink))
+      (front (graph .tasks + graph .edges) (graph .delay)) →
+      lost ≡ lists-lost
+  lost-in-result made is =
+      is ∙
+      ap (λ (es : List Edge). lostFrom (graph .tasks) es (front (graph .tasks + graph .edges) (graph .source)) (front (graph .tasks + graph .edges) (graph .sink)) (front (graph .tasks + graph .edges) (graph .delay)))
+      (result-held made)
 
   sync-held :
       (j : ℕ) → j < length (g .syncs) →

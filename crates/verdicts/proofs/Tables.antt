@@ -1,23 +1,37 @@
--- What a table of least delays says of an order: it is held where the entry is at most the delay, which is at most 255, so that 65,535, no path, holds
--- none.
+-- What delays between tasks say of an order. By a table of least delays it is held where the entry is at most the delay, which is at most 255, so that
+-- 65,535, no path, holds none; by a square of single edges' delays it is held where the entry is at most the delay, since an edge is a path.
 use mathlib.Core.Path.{_≡_, refl, sym, ap, _∙_}
+use mathlib.Core.Logic.{_⊎_, inl, inr}
 use mathlib.Core.Bool.{Bool, true, false, not}
 use mathlib.Core.List.{List}
 use mathlib.Core.Option.{Option, none, some}
 use Prim.Native.Nat.{ℕ, suc, _+_, _-_, _*_, _≤_, _<_}
-use native.Mathlib.Numerals.{add-one}
+use native.Mathlib.Nat.{sub-zero}
 use native.Mathlib.Omega.{arith}
-use lib.ListN.{length, getD}
+use lib.ListN.{length, getD, take, set, replicate, length-set, length-replicate, getD-replicate}
+use lib.Seq.{length-take-le, getD-take, getD-set-same, getD-set-other}
 use borrow.Author.Tests.{le-leb, lt-leb}
-use Rattle.model.specs.Tasks.{Edge}
+use Rattle.model.specs.Tasks.{Edge, _∈_, Ends}
 use Rattle.model.specs.Compute.{leastDelay, atMost, orderHolds}
+use Rattle.model.proofs.Basics.{order}
+use Rattle.model.proofs.Walks.{path-edge, path-ends}
+use Rattle.model.proofs.Tests.{decides-yes, path-held}
+use Rattle.model.proofs.Theorems.{order-holds-is}
+use Rattle.files.specs.declared.Refusal.{Refusal}
 use Rattle.files.specs.Refusals.{refuse, notRefused}
-use Rattle.files.proofs.First.{refused, not-refused, stops-at, stops-nowhere}
+use Rattle.files.proofs.First.{refused, not-refused, stops-at, stops-nowhere, number-same}
 use Rattle.records.specs.Columns.{heldEdge, edgesOf}
 use Rattle.records.proofs.Edges.{edge-in}
-use Rattle.delays.specs.Delays.{entry, Fit}
+use Rattle.records.proofs.Rows.{place-within, product-small}
+use Rattle.delays.specs.Delays.{entry, delayTable, Fit}
 use Rattle.delays.proofs.Table.{table-at}
-use Rattle.verdicts.specs.Tables.{TableOf, lostFrom}
+use Rattle.schedule.proofs.Fronts.{front}
+use Rattle.verdicts.specs.Tables.{Stepped, FirstAbove, all-within, above, between, lostFrom}
+
+-- a list is the table of least delays of rs, between n tasks
+pub record TableOf (n : ℕ) (rs : List Edge) (table : List ℕ) : Type 0 where
+  pub fit : Fit n rs
+  pub least : table ≡ delayTable n rs
 
 module _ {n : ℕ} (few : n ≤ 64) {rs : List Edge} {table : List ℕ} (is : TableOf n rs table) (a b : ℕ) (a-below : a < n) (b-below : b < n) where
   stands : getD table (a * n + b) 0 ≡ entry (leastDelay n rs a b)
@@ -43,48 +57,144 @@ module _ {n : ℕ} (few : n ≤ 64) {rs : List Edge} {table : List ℕ} (is : Ta
           let same : getD table (a * n + b) 0 ≡ d = stands ∙ ap entry found in
           ap (λ (o : Option ℕ). atMost o delay) found ∙ lt-leb d delay (omega arith)
 
+-- ── Single edges ──
+
+-- entries of rows stand at different places
+same-row : (w a b c d : ℕ) → b < w → d < w → a * w + b ≡ c * w + d → a ≡ c
+same-row w a b c d k l same = go (order a c) (order c a)
+  where
+    go : (a ≤ c) ⊎ (c < a) → (c ≤ a) ⊎ (a < c) → a ≡ c
+    go (inl h) (inl h′) = omega arith
+    go (inr h) after = absurd (omega (arith, place-within w a c d h l))
+    go (inl h) (inr h′) = absurd (omega (arith, place-within w c a b h′ k))
+
+-- the entry of an edge's ends stands in a square of n rows
+pub edge-place :
+    {n : ℕ} (source sink delay : List ℕ) (j : ℕ) → n ≤ 64 → Fit n (edgesOf source sink delay) → j < length source →
+    (getD source j 0 * n + getD sink j 0 < n * n) × (n * n ≤ 4096)
+unfolding heldEdge
+edge-place {n} source sink delay j few fit below =
+    let ends = fit .ends (heldEdge source sink delay j) (edge-in source sink delay j below) in
+    (place-within n n (getD source j 0) (getD sink j 0) (ends .0) (ends .1), product-small n n few few)
+
+-- the square before any edge
+pub no-steps : (n : ℕ) (rs : List Edge) {square : List ℕ} → square ≡ replicate 4096 65535 → Stepped n rs square
+no-steps n rs {square} blank = record {
+  room = ap length blank ∙ length-replicate {A = ℕ} 4096 65535;
+  steps = λ i inside small.
+      let far : getD square i 0 ≡ 65535 = ap (λ (xs : List ℕ). getD xs i 0) blank ∙ getD-replicate {A = ℕ} 4096 i 65535 0 inside in
+      absurd (omega arith);
+}
+
+-- an entry lowered to the delay of an edge with these ends, or left
+pub step-taken :
+    {n : ℕ} {rs : List Edge} {square square′ : List ℕ} (at delay : ℕ) → Stepped n rs square → square′ ≡ set square at delay → at < 4096
+    → (delay ≡ getD square at 0) ⊎ ((e : Edge) × e ∈ rs × (e .source * n + e .sink ≡ at) × (e .delay ≤ delay)) → Stepped n rs square′
+step-taken {n} {rs} {square} {square′} at delay held is inside which = record {
+  room = ap length is ∙ (length-set square at delay ∙ held .room);
+  steps = λ i below small. go i below small (order i at) (order at i);
+}
+  where
+    other : (i : ℕ) → i < 4096 → getD square′ i 0 ≤ 255 → (i ≡ at → ⊥)
+        → (e : Edge) × e ∈ rs × (e .source * n + e .sink ≡ i) × (e .delay ≤ getD square′ i 0)
+    other i below small apart =
+        let same : getD square′ i 0 ≡ getD square i 0 = ap (λ (xs : List ℕ). getD xs i 0) is ∙ getD-set-other square at i delay 0 apart in
+        let old = held .steps i below (omega arith) in
+        (old .0, old .1, old .2, omega (arith, same, old .3))
+
+    here : (i : ℕ) → i ≡ at → getD square′ i 0 ≤ 255
+        → (delay ≡ getD square at 0) ⊎ ((e : Edge) × e ∈ rs × (e .source * n + e .sink ≡ at) × (e .delay ≤ delay))
+        → (e : Edge) × e ∈ rs × (e .source * n + e .sink ≡ i) × (e .delay ≤ getD square′ i 0)
+    here i q small which =
+        let room : length square ≡ 4096 = held .room in
+        let stored : getD square′ i 0 ≡ delay =
+        ap (λ (xs : List ℕ). getD xs i 0) is ∙ (ap (λ (k : ℕ). getD (set square at delay) k 0) q ∙ getD-set-same square at delay 0 (omega arith)) in
+        pick stored which
+      where
+        pick : getD square′ i 0 ≡ delay → (delay ≡ getD square at 0) ⊎ ((e : Edge) × e ∈ rs × (e .source * n + e .sink ≡ at) × (e .delay ≤ delay))
+            → (e : Edge) × e ∈ rs × (e .source * n + e .sink ≡ i) × (e .delay ≤ getD square′ i 0)
+        pick stored (inl left) =
+            let old = held .steps at inside (omega arith) in
+            (old .0, old .1, old .2 ∙ sym q, omega (arith, stored, left, old .3))
+        pick stored (inr new) = (new .0, new .1, new .2 ∙ sym q, omega (arith, stored, new .3))
+
+    go : (i : ℕ) → i < 4096 → getD square′ i 0 ≤ 255 → (i ≤ at) ⊎ (at < i) → (at ≤ i) ⊎ (i < at)
+        → (e : Edge) × e ∈ rs × (e .source * n + e .sink ≡ i) × (e .delay ≤ getD square′ i 0)
+    go i below small (inl h) (inl h′) = here i (omega arith) small which
+    go i below small (inr h) after = other i below small (λ q. omega arith)
+    go i below small (inl h) (inr h′) = other i below small (λ q. omega arith)
+
+-- the front of the square, as long as n rows of n
+pub steps-front : {n : ℕ} {rs : List Edge} {square : List ℕ} → n ≤ 64 → Stepped n rs square → length (front (n * n) square) ≡ n * n
+steps-front {n} {rs} {square} few held =
+    let room : length square ≡ 4096 = held .room in
+    ap (λ (k : ℕ). length (take k square)) (sub-zero (n * n)) ∙ length-take-le (n * n) square (omega (arith, product-small n n few few))
+
 -- ── The first order lost ──
 
-module _
-    {n : ℕ} (few : n ≤ 64) (source sink delay : List ℕ) {rs : List Edge} {table : List ℕ} (is : TableOf n rs table)
-    (fit : Fit n (edgesOf source sink delay)) where
-  -- the table's delay between the ends of edge number i of the file, from 0
-  abbrev between : ℕ → ℕ
-  between i = getD table (getD source (n + i) 0 * n + getD sink (n + i) 0) 0
-
+module _ {n : ℕ} (few : n ≤ 64) (source sink delay : List ℕ) (rs : List Edge) (fit : Fit n (edgesOf source sink delay)) where
   abbrev held : ℕ → Bool
   held i = orderHolds n rs (heldEdge source sink delay (n + i))
 
-  order-kept : (i : ℕ) → n + i < length source → between i ≤ getD delay (n + i) 0 → held i ≡ true
-  unfolding heldEdge orderHolds
-  order-kept i below within =
-      let member = edge-in source sink delay (n + i) below in
-      let ends = fit .ends (heldEdge source sink delay (n + i)) member in
-      within-order few is (getD source (n + i) 0) (getD sink (n + i) 0) (ends .0) (ends .1) (getD delay (n + i) 0)
-      (fit .delays (heldEdge source sink delay (n + i)) member) within
+  not-lost : (i : ℕ) → held i ≡ true → refuse (not (held i)) 14 (suc i) ≡ notRefused
+  not-lost i is = not-refused 14 (suc i) (ap not is)
 
-  order-gone : (i : ℕ) → n + i < length source → getD delay (n + i) 0 < between i → held i ≡ false
-  unfolding heldEdge orderHolds
-  order-gone i below beyond =
-      let ends = fit .ends (heldEdge source sink delay (n + i)) (edge-in source sink delay (n + i) below) in
-      beyond-order few is (getD source (n + i) 0) (getD sink (n + i) 0) (ends .0) (ends .1) (getD delay (n + i) 0) beyond
+  module _ {table : List ℕ} (is : TableOf n rs table) where
+    order-kept : (i : ℕ) → n + i < length source → between n source sink table i ≤ getD delay (n + i) 0 → held i ≡ true
+    unfolding heldEdge orderHolds
+    order-kept i below within =
+        let member = edge-in source sink delay (n + i) below in
+        let ends = fit .ends (heldEdge source sink delay (n + i)) member in
+        within-order few is (getD source (n + i) 0) (getD sink (n + i) 0) (ends .0) (ends .1) (getD delay (n + i) 0)
+        (fit .delays (heldEdge source sink delay (n + i)) member) within
 
-  not-lost : (i : ℕ) → n + i < length source → between i ≤ getD delay (n + i) 0 → refuse (not (held i)) 14 (suc i) ≡ notRefused
-  not-lost i below within = not-refused 14 (suc i) (ap not (order-kept i below within))
+    order-gone : (i : ℕ) → n + i < length source → getD delay (n + i) 0 < between n source sink table i → held i ≡ false
+    unfolding heldEdge orderHolds
+    order-gone i below beyond =
+        let ends = fit .ends (heldEdge source sink delay (n + i)) (edge-in source sink delay (n + i) below) in
+        beyond-order few is (getD source (n + i) 0) (getD sink (n + i) 0) (ends .0) (ends .1) (getD delay (n + i) 0) beyond
 
-  pub lost-at :
-      (j : ℕ) → n + j < length source → ((i : ℕ) → i < j → between i ≤ getD delay (n + i) 0) → getD delay (n + j) 0 < between j →
-      record { number = 14; place = j + 1 } ≡ lostFrom n rs source sink delay
-  unfolding lostFrom
-  lost-at j below kept beyond =
-      ap (λ (k : ℕ). record { number = 14; place = k }) (add-one j) ∙
-      sym
-      (stops-at (length source - n) (λ i. refuse (not (held i)) 14 (suc i)) {k = j} {r = record { number = 14; place = suc j }} (omega arith)
-      (λ i earlier. not-lost i (omega arith) (kept i earlier)) (refused 14 (suc j) (ap not (order-gone j below beyond))) (λ z. omega arith))
+    -- the search in the table of least delays
+    pub lost-by-table : {r : Refusal} → FirstAbove n source sink delay table r → r ≡ lostFrom n rs source sink delay
+    unfolding lostFrom
+    lost-by-table (above j found below kept beyond) =
+        found ∙
+        sym
+        (stops-at (length source - n) (λ i. refuse (not (held i)) 14 (suc i)) {k = j} {r = record { number = 14; place = suc j }} (omega arith)
+        (λ i earlier. not-lost i (order-kept i (omega arith) (kept i earlier))) (refused 14 (suc j) (ap not (order-gone j below beyond))) (λ z. omega arith))
+    lost-by-table (all-within passed kept) =
+        passed ∙
+        sym
+        (stops-nowhere (length source - n) (λ i. refuse (not (held i)) 14 (suc i)) {k = length source - n} (omega arith)
+        (λ i earlier. not-lost i (order-kept i (omega arith) (kept i (omega arith)))))
 
-  pub lost-nowhere :
-      (j : ℕ) → length source ≤ n + j → ((i : ℕ) → i < j → between i ≤ getD delay (n + i) 0) → n + j ≤ length source →
-      notRefused ≡ lostFrom n rs source sink delay
-  unfolding lostFrom
-  lost-nowhere j end kept inside =
-      sym (stops-nowhere (length source - n) (λ i. refuse (not (held i)) 14 (suc i)) {k = j} (omega arith) (λ i earlier. not-lost i (omega arith) (kept i earlier)))
+  module _ {square : List ℕ} (ends : Ends n rs) (is : Stepped n rs square) where
+    order-stepped : (i : ℕ) → n + i < length source → between n source sink (front (n * n) square) i ≤ getD delay (n + i) 0 → held i ≡ true
+    unfolding heldEdge
+    order-stepped i below within =
+        let e = heldEdge source sink delay (n + i) in
+        let member = edge-in source sink delay (n + i) below in
+        let own = fit .ends e member in
+        let short = fit .delays e member in
+        let place = e .source * n + e .sink in
+        let inside : place < n * n = place-within n n (e .source) (e .sink) (own .0) (own .1) in
+        let small : place < 4096 = omega (arith, inside, product-small n n few few) in
+        let same : getD (front (n * n) square) place 0 ≡ getD square place 0 =
+        ap (λ (k : ℕ). getD (take k square) place 0) (sub-zero (n * n)) ∙ getD-take (n * n) square place 0 inside in
+        let found = is .steps place small (omega (arith, same, within, short)) in
+        let f = found .0 in
+        let there = ends f (found .1) in
+        let from : f .source ≡ e .source = same-row n (f .source) (f .sink) (e .source) (e .sink) (there .1) (own .1) (found .2) in
+        let to : f .sink ≡ e .sink = omega (arith, found .2, ap (λ (k : ℕ). k * n) from) in
+        decides-yes (order-holds-is n rs ends e) (path-held ends e (path-ends from to (path-edge (found .1))) (omega (arith, found .3, same, within)))
+
+    -- the search in the square of single edges, where it finds nothing
+    pub none-lost-by-steps :
+        {r : Refusal} → FirstAbove n source sink delay (front (n * n) square) r → r .number ≡ 0 → r ≡ lostFrom n rs source sink delay
+    unfolding lostFrom
+    none-lost-by-steps (above j found below kept beyond) zero = let z : _≡_ {A = ℕ} 14 0 = number-same (sym found) ∙ zero in absurd (omega arith)
+    none-lost-by-steps (all-within passed kept) zero =
+        passed ∙
+        sym
+        (stops-nowhere (length source - n) (λ i. refuse (not (held i)) 14 (suc i)) {k = length source - n} (omega arith)
+        (λ i earlier. not-lost i (order-stepped i (omega arith) (kept i (omega arith)))))

@@ -1,21 +1,15 @@
--- Only for contracts inside: what a search over edges in a table of least delays finds.
+-- Only for contracts inside: what the searches of 13 and 14 find, by where paths lead and by delays between tasks.
 use mathlib.Core.Path.{_≡_}
 use mathlib.Core.Bool.{true, false, not}
 use mathlib.Core.List.{List}
-use Prim.Native.Nat.{ℕ, suc, _+_, _-_, _<_}
-use lib.ListN.{length}
-use Rattle.model.specs.Tasks.{Edge}
+use Prim.Native.Nat.{ℕ, suc, _+_, _-_, _*_, _≤_, _<_}
+use lib.ListN.{length, getD}
+use Rattle.model.specs.Tasks.{Edge, _∈_}
 use Rattle.model.specs.Compute.{present, leastDelay, orderHolds}
 use Rattle.files.specs.declared.Refusal.{Refusal}
-use Rattle.files.specs.Refusals.{refuse}
+use Rattle.files.specs.Refusals.{refuse, notRefused}
 use Rattle.files.specs.Files.{firstOf}
 use Rattle.records.specs.Columns.{at, heldEdge}
-use Rattle.delays.specs.Delays.{delayTable, Fit}
-
--- a list is the table of least delays of rs, between n tasks
-pub record TableOf (n : ℕ) (rs : List Edge) (table : List ℕ) : Type 0 where
-  pub fit : Fit n rs
-  pub least : table ≡ delayTable n rs
 
 -- r is the place, from 1, of an edge of two lists that lies on a cycle of rs, or 0 and none of them does
 pub data FoundCyclic (n : ℕ) (rs : List Edge) (source sink : List ℕ) (r : ℕ) : Type 0 where
@@ -23,6 +17,26 @@ pub data FoundCyclic (n : ℕ) (rs : List Edge) (source sink : List ℕ) (r : �
       r ≡ 0 → ((j : ℕ) → j < length source → present (leastDelay n rs (at sink j) (at source j)) ≡ false) → FoundCyclic n rs source sink r
   somewhere :
       (j : ℕ) → r ≡ suc j → j < length source → present (leastDelay n rs (at sink j) (at source j)) ≡ true → FoundCyclic n rs source sink r
+
+-- a square of n times n entries: each that a delay can be, of at most 255, is no less than that of an edge of rs with these ends
+pub record Stepped (n : ℕ) (rs : List Edge) (square : List ℕ) : Type 0 where
+  pub room : length square ≡ 4096
+  pub steps :
+      (i : ℕ) → i < 4096 → getD square i 0 ≤ 255 →
+      (e : Edge) × e ∈ rs × (e .source * n + e .sink ≡ i) × (e .delay ≤ getD square i 0)
+
+-- a table's entry for the ends of edge number i, from 0, of those behind the first n
+abbrev pub between : ℕ → List ℕ → List ℕ → List ℕ → ℕ → ℕ
+between n source sink table i = getD table (getD source (n + i) 0 * n + getD sink (n + i) 0) 0
+
+-- r is 14's refusal at the first of the edges from entry n on whose delay is below the table's entry, or no refusal and there is none
+pub data FirstAbove (n : ℕ) (source sink delay table : List ℕ) (r : Refusal) : Type 0 where
+  all-within :
+      r ≡ notRefused → ((i : ℕ) → n + i < length source → between n source sink table i ≤ getD delay (n + i) 0) → FirstAbove n source sink delay table r
+  above :
+      (j : ℕ) → r ≡ record { number = 14; place = suc j } → n + j < length source →
+      ((i : ℕ) → i < j → between n source sink table i ≤ getD delay (n + i) 0) → getD delay (n + j) 0 < between n source sink table j →
+      FirstAbove n source sink delay table r
 
 -- the first of the edges from entry n on whose order is lost in rs
 unfoldable pub lostFrom : ℕ → List Edge → List ℕ → List ℕ → List ℕ → Refusal

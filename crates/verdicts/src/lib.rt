@@ -1,17 +1,20 @@
 // Refusals 13 to 15: the verdict on proposed edges beside an accepted graph. No file is asked for: the edges may come from anywhere.
 ghost use mathlib.Core.Path.{_≡_};
 ghost use mathlib.Core.List.{List};
+ghost use mathlib.Core.Logic.{_⊎_};
 ghost use Prim.Native.Nat.{ℕ, _*_, _≤_, _<_};
-ghost use lib.ListN.{length};
+ghost use lib.ListN.{length, replicate};
 ghost use Rattle.model.specs.Tasks.{Edge};
 ghost use Rattle.model.specs.Graph.{Graph};
 ghost use Rattle.records.specs.Columns.{edgesOf, at};
 ghost use Rattle.delays.specs.Delays.{Fit};
+ghost use Rattle.reach.specs.Reach.{Reaches};
 ghost use Rattle.verdicts.specs.Verdicts.{judgement, OpenPlace, Judgeable};
-ghost use Rattle.verdicts.specs.Tables.{TableOf, FoundCyclic, lostFrom};
-use delays::blank_table;
-use delays::has_path;
+ghost use Rattle.verdicts.specs.Tables.{FoundCyclic, Stepped, FirstAbove, lostFrom};
+use delays::DelayTable;
 use files::Refusal;
+use reach::leads_to;
+use reach::paths_between;
 use readings::GraphReading;
 use readings::ProposalReading;
 use results::result_edges;
@@ -33,18 +36,18 @@ const LATE: Refusal = Refusal {
     place: 0,
 };
 
-// The place of an edge that lies on a cycle, counted from 1, or 0 if none does: by the least delays of the graph that has them.
-fn cyclic_place<'a>(source: &'a [u8], sink: &'a [u8], table: &'a [u16], tasks: usize) -> u32
+// The place of an edge that lies on a cycle, counted from 1, or 0 if none does: by where the paths of the graph that has them lead.
+fn cyclic_place<'a>(source: &'a [u8], sink: &'a [u8], words: &'a [u64], tasks: usize) -> u32
     requires { ⌜ (length (now sink) ≡ length (now source)) × (length (now source) ≤ 256) ⌝ }
-    requires { ⌜ (tasks ≤ 64) × (length (now table) ≡ tasks * tasks) ⌝ }
+    requires { ⌜ (tasks ≤ 64) × (length (now words) ≡ 64) ⌝ }
     requires { ⌜ ((j : ℕ) → j < length (now source) → (at (now source) j < tasks) × (at (now sink) j < tasks)) ⌝ }
-    ensures { λ r. ⌜ ((rs : List Edge) → TableOf tasks rs (now (table .entry)) → FoundCyclic tasks rs (now (source .entry)) (now (sink .entry)) r) ⌝ }
+    ensures { λ r. ⌜ ((rs : List Edge) → Reaches tasks rs (now (words .entry)) → FoundCyclic tasks rs (now (source .entry)) (now (sink .entry)) r) ⌝ }
 {
     let mut j = 0;
     while j < source.len() {
         let from = source[j] as usize;
         let to = sink[j] as usize;
-        if has_path(table, tasks, to, from) {
+        if leads_to(words, to, from) {
             return j as u32 + 1;
         }
         j += 1;
@@ -52,9 +55,49 @@ fn cyclic_place<'a>(source: &'a [u8], sink: &'a [u8], table: &'a [u16], tasks: u
     0
 }
 
-// 14: the first edge of a graph's file whose order is lost, by the least delays of the result; processor edges stand first in the
-// lists, one for each task.
-fn lost_order<'a>(
+// A square without any edge.
+fn no_steps() -> DelayTable
+    ensures { λ r. ⌜ r .delay ≡ replicate 4096 65535 ⌝ }
+{
+    DelayTable {
+        delay: [65535; 4096],
+    }
+}
+
+// The smaller of two delays.
+fn lesser(a: u16, b: u16) -> u16
+    ensures { λ r. ⌜ (r ≡ a) ⊎ (r ≡ b) ⌝ }
+{
+    if b < a {
+        return b;
+    }
+    a
+}
+
+// Lowers the entry of each edge's ends to its delay.
+fn take_steps<'a>(
+    source: &'a [u8],
+    sink: &'a [u8],
+    delay: &'a [u8],
+    tasks: usize,
+    square: &mut [u16],
+)
+    requires { ⌜ (length (now sink) ≡ length (now source)) × (length (now delay) ≡ length (now source)) ⌝ }
+    requires { ⌜ (tasks ≤ 64) × (now square ≡ replicate 4096 65535) ⌝ }
+    requires { ⌜ Fit tasks (edgesOf (now source) (now sink) (now delay)) ⌝ }
+    ensures { λ _. ⌜ Stepped tasks (edgesOf (now (source .entry)) (now (sink .entry)) (now (delay .entry))) (now (square .exit)) ⌝ }
+{
+    let mut j = 0;
+    while j < source.len() {
+        let at = source[j] as usize * tasks + sink[j] as usize;
+        square[at] = lesser(square[at], delay[j] as u16);
+        j += 1;
+    }
+}
+
+// 14's refusal at the first edge of a graph's file whose delay is below the entry of its ends; processor edges stand first in the lists, one for
+// each task.
+fn first_above<'a>(
     source: &'a [u8],
     sink: &'a [u8],
     delay: &'a [u8],
@@ -65,7 +108,7 @@ fn lost_order<'a>(
     requires { ⌜ (tasks ≤ length (now source)) × (length (now source) ≤ 320) ⌝ }
     requires { ⌜ (tasks ≤ 64) × (length (now table) ≡ tasks * tasks) ⌝ }
     requires { ⌜ Fit tasks (edgesOf (now source) (now sink) (now delay)) ⌝ }
-    ensures { λ r. ⌜ ((rs : List Edge) → TableOf tasks rs (now (table .entry)) → r ≡ lostFrom tasks rs (now (source .entry)) (now (sink .entry)) (now (delay .entry))) ⌝ }
+    ensures { λ r. ⌜ FirstAbove tasks (now (source .entry)) (now (sink .entry)) (now (delay .entry)) (now (table .entry)) r ⌝ }
 {
     let mut j = 0;
     while tasks + j < source.len() {
@@ -80,6 +123,35 @@ fn lost_order<'a>(
         j += 1;
     }
     PASSED
+}
+
+// 14: the first edge of a graph's file whose order is lost in the result. An edge of the result with the same ends and no more delay holds an order;
+// only where one lacks such an edge the least delays are worked out.
+fn lost_order<'a>(
+    source: &'a [u8],
+    sink: &'a [u8],
+    delay: &'a [u8],
+    result_source: &'a [u8],
+    result_sink: &'a [u8],
+    result_delay: &'a [u8],
+    tasks: usize,
+) -> Refusal
+    requires { ⌜ (length (now sink) ≡ length (now source)) × (length (now delay) ≡ length (now source)) ⌝ }
+    requires { ⌜ (length (now «result_sink») ≡ length (now «result_source»)) × (length (now «result_delay») ≡ length (now «result_source»)) ⌝ }
+    requires { ⌜ (tasks ≤ length (now source)) × (length (now source) ≤ 320) × (tasks ≤ 64) ⌝ }
+    requires { ⌜ Fit tasks (edgesOf (now source) (now sink) (now delay)) ⌝ }
+    requires { ⌜ Fit tasks (edgesOf (now «result_source») (now «result_sink») (now «result_delay»)) ⌝ }
+    ensures { λ r. ⌜ r ≡ lostFrom tasks (edgesOf (now («result_source» .entry)) (now («result_sink» .entry)) (now («result_delay» .entry))) (now (source .entry)) (now (sink .entry)) (now (delay .entry)) ⌝ }
+{
+    let blank = no_steps();
+    let mut table = blank.delay;
+    take_steps(result_source, result_sink, result_delay, tasks, &mut table);
+    let open = first_above(source, sink, delay, &table[0..tasks * tasks], tasks);
+    if open.number == 0 {
+        return open;
+    }
+    least_table(result_source, result_sink, result_delay, tasks, &mut table);
+    first_above(source, sink, delay, &table[0..tasks * tasks], tasks)
 }
 
 // Judges proposed edges beside a graph.
@@ -110,19 +182,12 @@ pub fn judge(graph: GraphReading, proposal: ProposalReading) -> Judgement
     let result_source = result.source;
     let result_sink = result.sink;
     let result_delay = result.delay;
-    let blank = blank_table();
-    let mut table = blank.delay;
-    least_table(
-        &result_source[0..count],
-        &result_sink[0..count],
-        &result_delay[0..count],
-        tasks,
-        &mut table,
-    );
+    let reach = paths_between(&result_source[0..count], &result_sink[0..count], tasks);
+    let words = reach.words;
     let place = cyclic_place(
         &proposed_source[0..proposed],
         &proposed_sink[0..proposed],
-        &table[0..tasks * tasks],
+        &words,
         tasks,
     );
     if place != 0 {
@@ -135,7 +200,9 @@ pub fn judge(graph: GraphReading, proposal: ProposalReading) -> Judgement
         &source[0..end],
         &sink[0..end],
         &delay[0..end],
-        &table[0..tasks * tasks],
+        &result_source[0..count],
+        &result_sink[0..count],
+        &result_delay[0..count],
         tasks,
     );
     if lost.number != 0 {

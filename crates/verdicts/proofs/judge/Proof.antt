@@ -1,9 +1,8 @@
--- `verdicts::judge` meets its contract: what the table of the result's least delays shows of each edge, and the result's latency, are the judgement.
+-- `verdicts::judge` meets its contract: what the paths of the result and its delays show of each edge, and the result's latency, are the judgement.
 use mathlib.Core.Path.{_∙_}
+use mathlib.Core.List.{[]}
 use native.Mathlib.Omega.{arith}
-use Rattle.model.specs.Graph.{edges}
-use Rattle.model.specs.Proposals.{result}
-use Rattle.verdicts.proofs.Judging.{graph-fronts, proposed-fronts, graph-within, few-tasks, few-proposed, square-small, as-many-edges, few-edges, original-fit, proposed-ends, result-sinks, result-delays, held-fit, table-is, table-within, table-size, result-within, result-ends, times-filed, output-there, few-times, cycle-found, no-cycle-found, late-is, result-acyclic, judged-13, judged-14, lost-not-13, judged-15, judged-0}
+use Rattle.verdicts.proofs.Judging.{graph-fronts, proposed-fronts, graph-within, few-tasks, few-proposed, as-many-edges, few-edges, original-fit, proposed-ends, result-sinks, result-delays, result-joins, result-reached, held-fit, result-within, result-ends, times-filed, output-there, few-times, cycle-found, no-cycle-found, lost-in-result, late-is, result-acyclic, judged-13, judged-14, lost-not-13, judged-15, judged-0}
 use borrow.Author.Needs.{needs}
 use Rattle.verdicts.proofs.judge.Statement.{statement}
 use Rattle.verdicts.proofs.judge.Tie as tie
@@ -58,8 +57,7 @@ part-result-edges-start-4 c = search needs
 
 part-result-edges-end-4 : tie.Need-part-result-edges-end-4
 part-result-edges-end-4 c =
-    let start = c .before .before .before .before .before .before .before .before .before .before .before .before .before .before .before .before in
-    let given = start .pre .2 in
+    let given = c .before .before .before .before .before .before .before .before .before .before .before .before .before .before .before .before .pre .2 in
     omega (arith, few-proposed given, proposed-fronts given .source-room)
 
 sub-result-edges-5 : tie.Need-sub-result-edges-5
@@ -70,8 +68,7 @@ part-result-edges-start-5 c = search needs
 
 part-result-edges-end-5 : tie.Need-part-result-edges-end-5
 part-result-edges-end-5 c =
-    let start = c .before .before .before .before .before .before .before .before .before .before .before .before .before .before .before .before .before .before in
-    let given = start .pre .2 in
+    let given = c .before .before .before .before .before .before .before .before .before .before .before .before .before .before .before .before .before .before .pre .2 in
     omega (arith, few-proposed given, proposed-fronts given .sink-room)
 
 sub-result-edges-6 : tie.Need-sub-result-edges-6
@@ -82,14 +79,12 @@ part-result-edges-start-6 c = search needs
 
 part-result-edges-end-6 : tie.Need-part-result-edges-end-6
 part-result-edges-end-6 c =
-    let start = c .before .before .before .before .before .before .before .before .before .before .before .before .before .before .before .before .before .before .before .before in
-    let given = start .pre .2 in
+    let given = c .before .before .before .before .before .before .before .before .before .before .before .before .before .before .before .before .before .before .before .before .pre .2 in
     omega (arith, few-proposed given, proposed-fronts given .delay-room)
 
 result-edges-requires : tie.Need-result-edges-requires
 result-edges-requires c κs =
-    let start = c .before .before .before .before .before .before .before .before .before .before .before .before .before .before .before .before .before .before .before .before .before in
-    let given = start .pre .2 in
+    let given = c .before .before .before .before .before .before .before .before .before .before .before .before .before .before .before .before .before .before .before .before .before .pre .2 in
     let held = graph-fronts given in
     let more = proposed-fronts given in (
       (held .as-many-sinks, held .as-many-delays),
@@ -105,47 +100,31 @@ result-edges-requires c κs =
 cast-count : tie.Need-cast-count
 cast-count c = search needs
 
-blank-table-requires : tie.Need-blank-table-requires
-blank-table-requires c κs = search needs
+sub-paths-between : tie.Need-sub-paths-between
+sub-paths-between c = search needs
 
-sub-least-table : tie.Need-sub-least-table
-sub-least-table c = search needs
+part-paths-between-start : tie.Need-part-paths-between-start
+part-paths-between-start c = search needs
 
-part-least-table-start : tie.Need-part-least-table-start
-part-least-table-start c = search needs
+part-paths-between-end : tie.Need-part-paths-between-end
+part-paths-between-end c =
+    result-within (c .before .before .before .before .before .before .before .before .before .before .before .before .before .before .before .before .before .before .before .before .before .before .before .before .before .before .before .pre .2) (c .before .before .before .before .before .result-edges .ensures) .0
 
-part-least-table-end : tie.Need-part-least-table-end
-part-least-table-end c = search needs
+sub-paths-between-2 : tie.Need-sub-paths-between-2
+sub-paths-between-2 c = search needs
 
-sub-least-table-2 : tie.Need-sub-least-table-2
-sub-least-table-2 c = search needs
+part-paths-between-start-2 : tie.Need-part-paths-between-start-2
+part-paths-between-start-2 c = search needs
 
-part-least-table-start-2 : tie.Need-part-least-table-start-2
-part-least-table-start-2 c = search needs
+part-paths-between-end-2 : tie.Need-part-paths-between-end-2
+part-paths-between-end-2 c =
+    result-within (c .before .before .before .before .before .before .before .before .before .before .before .before .before .before .before .before .before .before .before .before .before .before .before .before .before .before .before .before .before .pre .2) (c .before .before .before .before .before .before .before .result-edges .ensures) .1
 
-part-least-table-end-2 : tie.Need-part-least-table-end-2
-part-least-table-end-2 c = search needs
-
-sub-least-table-3 : tie.Need-sub-least-table-3
-sub-least-table-3 c = search needs
-
-part-least-table-start-3 : tie.Need-part-least-table-start-3
-part-least-table-start-3 c = search needs
-
-part-least-table-end-3 : tie.Need-part-least-table-end-3
-part-least-table-end-3 c = search needs
-
-slice-aggregate-least-table : tie.Need-slice-aggregate-least-table
-slice-aggregate-least-table c = search needs
-
-least-table-requires : tie.Need-least-table-requires
-least-table-requires c κs =
-    let start = c .before .before .before .before .before .before .before .before .before .before .before .before .before .before .before .before .before .before .before .before .before .before .before .before .before .before .before .before .before .before .before .before .before .before .before in
-    let given = start .pre .2 in
-    let made = c .before .before .before .before .before .before .before .before .before .before .before .before .before .result-edges .ensures in (
-      (result-sinks given made, result-delays given made),
-      ((few-tasks given, omega (arith, square-small given, c .before .before .before .before .before .before .before .before .blank-table .ensures)), held-fit given made),
-    )
+paths-between-requires : tie.Need-paths-between-requires
+paths-between-requires c κs =
+    let given = c .before .before .before .before .before .before .before .before .before .before .before .before .before .before .before .before .before .before .before .before .before .before .before .before .before .before .before .before .before .before .pre .2 in
+    let made = c .before .before .before .before .before .before .before .before .result-edges .ensures in
+    ((result-sinks given made, few-tasks given), result-joins given made)
 
 sub-cyclic-place : tie.Need-sub-cyclic-place
 sub-cyclic-place c = search needs
@@ -155,8 +134,7 @@ part-cyclic-place-start c = search needs
 
 part-cyclic-place-end : tie.Need-part-cyclic-place-end
 part-cyclic-place-end c =
-    let start = c .before .before .before .before .before .before .before .before .before .before .before .before .before .before .before .before .before .before .before .before .before .before .before .before .before .before .before .before .before .before .before .before .before .before .before .before .before .before in
-    let given = start .pre .2 in
+    let given = c .before .before .before .before .before .before .before .before .before .before .before .before .before .before .before .before .before .before .before .before .before .before .before .before .before .before .before .before .before .before .before .before .before .pre .2 in
     omega (arith, few-proposed given, proposed-fronts given .source-room)
 
 sub-cyclic-place-2 : tie.Need-sub-cyclic-place-2
@@ -167,47 +145,26 @@ part-cyclic-place-start-2 c = search needs
 
 part-cyclic-place-end-2 : tie.Need-part-cyclic-place-end-2
 part-cyclic-place-end-2 c =
-    let start = c .before .before .before .before .before .before .before .before .before .before .before .before .before .before .before .before .before .before .before .before .before .before .before .before .before .before .before .before .before .before .before .before .before .before .before .before .before .before .before .before in
-    let given = start .pre .2 in
+    let given = c .before .before .before .before .before .before .before .before .before .before .before .before .before .before .before .before .before .before .before .before .before .before .before .before .before .before .before .before .before .before .before .before .before .before .before .pre .2 in
     omega (arith, few-proposed given, proposed-fronts given .sink-room)
 
-mul-cyclic-place : tie.Need-mul-cyclic-place
-mul-cyclic-place c =
-    let start = c .before .before .before .before .before .before .before .before .before .before .before .before .before .before .before .before .before .before .before .before .before .before .before .before .before .before .before .before .before .before .before .before .before .before .before .before .before .before .before .before .before in
-    let given = start .pre .2 in
-    record { fits = omega (arith, square-small given) }
-
-sub-cyclic-place-3 : tie.Need-sub-cyclic-place-3
-sub-cyclic-place-3 c = search needs
-
-part-cyclic-place-start-3 : tie.Need-part-cyclic-place-start-3
-part-cyclic-place-start-3 c = search needs
-
-part-cyclic-place-end-3 : tie.Need-part-cyclic-place-end-3
-part-cyclic-place-end-3 c =
-    let start = c .before .before .before .before .before .before .before .before .before .before .before .before .before .before .before .before .before .before .before .before .before .before .before .before .before .before .before .before .before .before .before .before .before .before .before .before .before .before .before .before .before .before in
-    let given = start .pre .2 in
-    let made = c .before .before .before .before .before .before .before .before .before .before .before .before .before .before .before .before .before .before .before .before .result-edges .ensures in
-    let written = c .before .before .before .before .before .before .least-table .ensures in
-    table-within given made _ written
+slice-aggregate-cyclic-place : tie.Need-slice-aggregate-cyclic-place
+slice-aggregate-cyclic-place c = search needs
 
 cyclic-place-requires : tie.Need-cyclic-place-requires
 cyclic-place-requires c κs =
-    let start = c .before .before .before .before .before .before .before .before .before .before .before .before .before .before .before .before .before .before .before .before .before .before .before .before .before .before .before .before .before .before .before .before .before .before .before .before .before .before .before .before .before .before .before in
-    let given = start .pre .2 in
-    let made = c .before .before .before .before .before .before .before .before .before .before .before .before .before .before .before .before .before .before .before .before .before .result-edges .ensures in
-    let written = c .before .before .before .before .before .before .before .least-table .ensures in
-    let more = proposed-fronts given in (
-      (more .as-many-sinks, omega (arith, more .as-many, given .formed .few)),
-      ((few-tasks given, table-size given made _ written), proposed-ends given),
-    )
+    let given = c .before .before .before .before .before .before .before .before .before .before .before .before .before .before .before .before .before .before .before .before .before .before .before .before .before .before .before .before .before .before .before .before .before .before .before .before .before .pre .2 in
+    let more = proposed-fronts given in
+    let room = c .before .before .before .before .before .before .paths-between .ensures [] .room in
+    ((more .as-many-sinks, omega (arith, more .as-many, given .formed .few)), ((few-tasks given, room), proposed-ends given))
 
 returns : tie.Need-returns
 returns c =
-    let made = c .before .before .before .before .before .before .before .before .before .before .before .before .before .before .before .before .before .before .before .before .before .before .before .result-edges .ensures in
-    let written = c .before .before .before .before .before .before .before .before .before .least-table .ensures in (
-      λ g proposed given. judged-13 given _ (cycle-found given (c .before .cyclic-place .ensures (edges (result g proposed)) (table-is given made _ written)) (c .if1 .taken) .0),
-      λ g proposed given thirteen. cycle-found given (c .before .cyclic-place .ensures (edges (result g proposed)) (table-is given made _ written)) (c .if1 .taken) .1,
+    let made = c .before .before .before .before .before .before .before .before .before .before .before .before .before .before .before .before .before .result-edges .ensures in
+    let reached = c .before .before .before .before .before .before .before .before .paths-between .ensures in
+    let found = c .before .cyclic-place .ensures in (
+      λ g proposed given. judged-13 given _ (cycle-found given (found _ (result-reached given made (reached _))) (c .if1 .taken) .0),
+      λ g proposed given thirteen. cycle-found given (found _ (result-reached given made (reached _))) (c .if1 .taken) .1,
     )
 
 sub-lost-order : tie.Need-sub-lost-order
@@ -218,7 +175,7 @@ part-lost-order-start c = search needs
 
 part-lost-order-end : tie.Need-part-lost-order-end
 part-lost-order-end c =
-    graph-within (c .before .before .before .before .before .before .before .before .before .before .before .before .before .before .before .before .before .before .before .before .before .before .before .before .before .before .before .before .before .before .before .before .before .before .before .before .before .before .before .before .before .before .before .before .before .before .pre .2) .source
+    graph-within (c .before .before .before .before .before .before .before .before .before .before .before .before .before .before .before .before .before .before .before .before .before .before .before .before .before .before .before .before .before .before .before .before .before .before .before .before .before .before .before .before .pre .2) .source
 
 sub-lost-order-2 : tie.Need-sub-lost-order-2
 sub-lost-order-2 c = search needs
@@ -228,7 +185,7 @@ part-lost-order-start-2 c = search needs
 
 part-lost-order-end-2 : tie.Need-part-lost-order-end-2
 part-lost-order-end-2 c =
-    graph-within (c .before .before .before .before .before .before .before .before .before .before .before .before .before .before .before .before .before .before .before .before .before .before .before .before .before .before .before .before .before .before .before .before .before .before .before .before .before .before .before .before .before .before .before .before .before .before .before .before .pre .2) .sink
+    graph-within (c .before .before .before .before .before .before .before .before .before .before .before .before .before .before .before .before .before .before .before .before .before .before .before .before .before .before .before .before .before .before .before .before .before .before .before .before .before .before .before .before .before .before .pre .2) .sink
 
 sub-lost-order-3 : tie.Need-sub-lost-order-3
 sub-lost-order-3 c = search needs
@@ -238,13 +195,7 @@ part-lost-order-start-3 c = search needs
 
 part-lost-order-end-3 : tie.Need-part-lost-order-end-3
 part-lost-order-end-3 c =
-    graph-within (c .before .before .before .before .before .before .before .before .before .before .before .before .before .before .before .before .before .before .before .before .before .before .before .before .before .before .before .before .before .before .before .before .before .before .before .before .before .before .before .before .before .before .before .before .before .before .before .before .before .before .pre .2) .delay
-
-mul-lost-order : tie.Need-mul-lost-order
-mul-lost-order c =
-    let start = c .before .before .before .before .before .before .before .before .before .before .before .before .before .before .before .before .before .before .before .before .before .before .before .before .before .before .before .before .before .before .before .before .before .before .before .before .before .before .before .before .before .before .before .before .before .before .before .before .before .before .before in
-    let given = start .pre .2 in
-    record { fits = omega (arith, square-small given) }
+    graph-within (c .before .before .before .before .before .before .before .before .before .before .before .before .before .before .before .before .before .before .before .before .before .before .before .before .before .before .before .before .before .before .before .before .before .before .before .before .before .before .before .before .before .before .before .before .pre .2) .delay
 
 sub-lost-order-4 : tie.Need-sub-lost-order-4
 sub-lost-order-4 c = search needs
@@ -254,32 +205,48 @@ part-lost-order-start-4 c = search needs
 
 part-lost-order-end-4 : tie.Need-part-lost-order-end-4
 part-lost-order-end-4 c =
-    let start = c .before .before .before .before .before .before .before .before .before .before .before .before .before .before .before .before .before .before .before .before .before .before .before .before .before .before .before .before .before .before .before .before .before .before .before .before .before .before .before .before .before .before .before .before .before .before .before .before .before .before .before .before in
-    let given = start .pre .2 in
-    let made = c .before .before .before .before .before .before .before .before .before .before .before .before .before .before .before .before .before .before .before .before .before .before .before .before .before .before .before .before .before .before .result-edges .ensures in
-    let written = c .before .before .before .before .before .before .before .before .before .before .before .before .before .before .before .before .least-table .ensures in
-    table-within given made _ written
+    result-within (c .before .before .before .before .before .before .before .before .before .before .before .before .before .before .before .before .before .before .before .before .before .before .before .before .before .before .before .before .before .before .before .before .before .before .before .before .before .before .before .before .before .before .before .before .before .before .pre .2) (c .before .before .before .before .before .before .before .before .before .before .before .before .before .before .before .before .before .before .before .before .before .before .before .before .result-edges .ensures) .0
+
+sub-lost-order-5 : tie.Need-sub-lost-order-5
+sub-lost-order-5 c = search needs
+
+part-lost-order-start-5 : tie.Need-part-lost-order-start-5
+part-lost-order-start-5 c = search needs
+
+part-lost-order-end-5 : tie.Need-part-lost-order-end-5
+part-lost-order-end-5 c =
+    result-within (c .before .before .before .before .before .before .before .before .before .before .before .before .before .before .before .before .before .before .before .before .before .before .before .before .before .before .before .before .before .before .before .before .before .before .before .before .before .before .before .before .before .before .before .before .before .before .before .before .pre .2) (c .before .before .before .before .before .before .before .before .before .before .before .before .before .before .before .before .before .before .before .before .before .before .before .before .before .before .result-edges .ensures) .1
+
+sub-lost-order-6 : tie.Need-sub-lost-order-6
+sub-lost-order-6 c = search needs
+
+part-lost-order-start-6 : tie.Need-part-lost-order-start-6
+part-lost-order-start-6 c = search needs
+
+part-lost-order-end-6 : tie.Need-part-lost-order-end-6
+part-lost-order-end-6 c =
+    result-within (c .before .before .before .before .before .before .before .before .before .before .before .before .before .before .before .before .before .before .before .before .before .before .before .before .before .before .before .before .before .before .before .before .before .before .before .before .before .before .before .before .before .before .before .before .before .before .before .before .before .before .pre .2) (c .before .before .before .before .before .before .before .before .before .before .before .before .before .before .before .before .before .before .before .before .before .before .before .before .before .before .before .before .result-edges .ensures) .2
 
 lost-order-requires : tie.Need-lost-order-requires
 lost-order-requires c κs =
-    let start = c .before .before .before .before .before .before .before .before .before .before .before .before .before .before .before .before .before .before .before .before .before .before .before .before .before .before .before .before .before .before .before .before .before .before .before .before .before .before .before .before .before .before .before .before .before .before .before .before .before .before .before .before .before in
-    let given = start .pre .2 in
-    let made = c .before .before .before .before .before .before .before .before .before .before .before .before .before .before .before .before .before .before .before .before .before .before .before .before .before .before .before .before .before .before .before .result-edges .ensures in
-    let written = c .before .before .before .before .before .before .before .before .before .before .before .before .before .before .before .before .before .least-table .ensures in
+    let given = c .before .before .before .before .before .before .before .before .before .before .before .before .before .before .before .before .before .before .before .before .before .before .before .before .before .before .before .before .before .before .before .before .before .before .before .before .before .before .before .before .before .before .before .before .before .before .before .before .before .before .before .pre .2 in
+    let made = c .before .before .before .before .before .before .before .before .before .before .before .before .before .before .before .before .before .before .before .before .before .before .before .before .before .before .before .before .before .result-edges .ensures in
     let held = graph-fronts given in (
       (held .as-many-sinks, held .as-many-delays),
       (
-        (omega (arith, as-many-edges given), omega (arith, as-many-edges given, few-edges given)),
-        ((few-tasks given, table-size given made _ written), original-fit given),
+        (result-sinks given made, result-delays given made),
+        ((omega (arith, as-many-edges given), omega (arith, as-many-edges given, few-edges given), few-tasks given), (original-fit given, held-fit given made)),
       ),
     )
 
 returns-2 : tie.Need-returns-2
 returns-2 c =
-    let made = c .before .before .before .before .before .before .before .before .before .before .before .before .before .before .before .before .before .before .before .before .before .before .before .before .before .before .before .before .before .before .before .before .before .before .result-edges .ensures in
-    let written = c .before .before .before .before .before .before .before .before .before .before .before .before .before .before .before .before .before .before .before .before .least-table .ensures in (
-      λ g proposed given. judged-14 given (no-cycle-found given (c .before .before .before .before .before .before .before .before .before .before .before .before .cyclic-place .ensures (edges (result g proposed)) (table-is given made _ written)) (c .before .before .before .before .before .before .before .before .before .before .before .if1 .left)) (c .before .before .lost-order .ensures (edges (result g proposed)) (table-is given made _ written)) (c .if2 .taken),
-      λ g proposed given thirteen. absurd (lost-not-13 given (c .before .before .lost-order .ensures (edges (result g proposed)) (table-is given made _ written)) thirteen),
+    let made = c .before .before .before .before .before .before .before .before .before .before .before .before .before .before .before .before .before .before .before .before .before .before .before .before .before .before .before .before .before .before .before .before .result-edges .ensures in
+    let reached = c .before .before .before .before .before .before .before .before .before .before .before .before .before .before .before .before .before .before .before .before .before .before .before .paths-between .ensures in
+    let found = c .before .before .before .before .before .before .before .before .before .before .before .before .before .before .before .before .cyclic-place .ensures in
+    let lost = c .before .before .lost-order .ensures in (
+      λ g proposed given. judged-14 given (no-cycle-found given (found _ (result-reached given made (reached _))) (c .before .before .before .before .before .before .before .before .before .before .before .before .before .before .before .if1 .left)) (lost-in-result given made lost) (c .if2 .taken),
+      λ g proposed given thirteen. absurd (lost-not-13 given (lost-in-result given made lost) thirteen),
     )
 
 sub-latency : tie.Need-sub-latency
@@ -290,10 +257,7 @@ part-latency-start c = search needs
 
 part-latency-end : tie.Need-part-latency-end
 part-latency-end c =
-    let start = c .before .before .before .before .before .before .before .before .before .before .before .before .before .before .before .before .before .before .before .before .before .before .before .before .before .before .before .before .before .before .before .before .before .before .before .before .before .before .before .before .before .before .before .before .before .before .before .before .before .before .before .before .before .before .before .before .before .before in
-    let given = start .pre .2 in
-    let made = c .before .before .before .before .before .before .before .before .before .before .before .before .before .before .before .before .before .before .before .before .before .before .before .before .before .before .before .before .before .before .before .before .before .before .before .before .result-edges .ensures in
-    result-within given made .0
+    result-within (c .before .before .before .before .before .before .before .before .before .before .before .before .before .before .before .before .before .before .before .before .before .before .before .before .before .before .before .before .before .before .before .before .before .before .before .before .before .before .before .before .before .before .before .before .before .before .before .before .before .before .before .before .before .before .before .before .pre .2) (c .before .before .before .before .before .before .before .before .before .before .before .before .before .before .before .before .before .before .before .before .before .before .before .before .before .before .before .before .before .before .before .before .before .before .result-edges .ensures) .0
 
 sub-latency-2 : tie.Need-sub-latency-2
 sub-latency-2 c = search needs
@@ -303,10 +267,7 @@ part-latency-start-2 c = search needs
 
 part-latency-end-2 : tie.Need-part-latency-end-2
 part-latency-end-2 c =
-    let start = c .before .before .before .before .before .before .before .before .before .before .before .before .before .before .before .before .before .before .before .before .before .before .before .before .before .before .before .before .before .before .before .before .before .before .before .before .before .before .before .before .before .before .before .before .before .before .before .before .before .before .before .before .before .before .before .before .before .before .before .before in
-    let given = start .pre .2 in
-    let made = c .before .before .before .before .before .before .before .before .before .before .before .before .before .before .before .before .before .before .before .before .before .before .before .before .before .before .before .before .before .before .before .before .before .before .before .before .before .before .result-edges .ensures in
-    result-within given made .1
+    result-within (c .before .before .before .before .before .before .before .before .before .before .before .before .before .before .before .before .before .before .before .before .before .before .before .before .before .before .before .before .before .before .before .before .before .before .before .before .before .before .before .before .before .before .before .before .before .before .before .before .before .before .before .before .before .before .before .before .before .before .pre .2) (c .before .before .before .before .before .before .before .before .before .before .before .before .before .before .before .before .before .before .before .before .before .before .before .before .before .before .before .before .before .before .before .before .before .before .before .before .result-edges .ensures) .1
 
 sub-latency-3 : tie.Need-sub-latency-3
 sub-latency-3 c = search needs
@@ -316,10 +277,7 @@ part-latency-start-3 c = search needs
 
 part-latency-end-3 : tie.Need-part-latency-end-3
 part-latency-end-3 c =
-    let start = c .before .before .before .before .before .before .before .before .before .before .before .before .before .before .before .before .before .before .before .before .before .before .before .before .before .before .before .before .before .before .before .before .before .before .before .before .before .before .before .before .before .before .before .before .before .before .before .before .before .before .before .before .before .before .before .before .before .before .before .before .before .before in
-    let given = start .pre .2 in
-    let made = c .before .before .before .before .before .before .before .before .before .before .before .before .before .before .before .before .before .before .before .before .before .before .before .before .before .before .before .before .before .before .before .before .before .before .before .before .before .before .before .before .result-edges .ensures in
-    result-within given made .2
+    result-within (c .before .before .before .before .before .before .before .before .before .before .before .before .before .before .before .before .before .before .before .before .before .before .before .before .before .before .before .before .before .before .before .before .before .before .before .before .before .before .before .before .before .before .before .before .before .before .before .before .before .before .before .before .before .before .before .before .before .before .before .before .pre .2) (c .before .before .before .before .before .before .before .before .before .before .before .before .before .before .before .before .before .before .before .before .before .before .before .before .before .before .before .before .before .before .before .before .before .before .before .before .before .before .result-edges .ensures) .2
 
 sub-latency-4 : tie.Need-sub-latency-4
 sub-latency-4 c = search needs
@@ -329,44 +287,43 @@ part-latency-start-4 c = search needs
 
 part-latency-end-4 : tie.Need-part-latency-end-4
 part-latency-end-4 c =
-    graph-within (c .before .before .before .before .before .before .before .before .before .before .before .before .before .before .before .before .before .before .before .before .before .before .before .before .before .before .before .before .before .before .before .before .before .before .before .before .before .before .before .before .before .before .before .before .before .before .before .before .before .before .before .before .before .before .before .before .before .before .before .before .before .before .before .before .pre .2) .time
+    graph-within (c .before .before .before .before .before .before .before .before .before .before .before .before .before .before .before .before .before .before .before .before .before .before .before .before .before .before .before .before .before .before .before .before .before .before .before .before .before .before .before .before .before .before .before .before .before .before .before .before .before .before .before .before .before .before .before .before .before .before .before .before .before .before .pre .2) .time
 
 cast-latency : tie.Need-cast-latency
 cast-latency c =
-    let start = c .before .before .before .before .before .before .before .before .before .before .before .before .before .before .before .before .before .before .before .before .before .before .before .before .before .before .before .before .before .before .before .before .before .before .before .before .before .before .before .before .before .before .before .before .before .before .before .before .before .before .before .before .before .before .before .before .before .before .before .before .before .before .before .before .before .before in
-    let given = start .pre .2 in
+    let given = c .before .before .before .before .before .before .before .before .before .before .before .before .before .before .before .before .before .before .before .before .before .before .before .before .before .before .before .before .before .before .before .before .before .before .before .before .before .before .before .before .before .before .before .before .before .before .before .before .before .before .before .before .before .before .before .before .before .before .before .before .before .before .before .before .pre .2 in
     omega (arith, output-there given, few-times given)
 
 latency-requires : tie.Need-latency-requires
 latency-requires c κs =
-    let start = c .before .before .before .before .before .before .before .before .before .before .before .before .before .before .before .before .before .before .before .before .before .before .before .before .before .before .before .before .before .before .before .before .before .before .before .before .before .before .before .before .before .before .before .before .before .before .before .before .before .before .before .before .before .before .before .before .before .before .before .before .before .before .before .before .before .before in
-    let given = start .pre .2 in
-    let made = c .before .before .before .before .before .before .before .before .before .before .before .before .before .before .before .before .before .before .before .before .before .before .before .before .before .before .before .before .before .before .before .before .before .before .before .before .before .before .before .before .before .before .before .before .result-edges .ensures in
-    let written = c .before .before .before .before .before .before .before .before .before .before .before .before .before .before .before .before .before .before .before .before .before .before .before .before .before .before .before .before .before .before .least-table .ensures in
-    let g = start .pre .0 in
-    let proposed = start .pre .1 in
-    let none = no-cycle-found given (c .before .before .before .before .before .before .before .before .before .before .before .before .before .before .before .before .before .before .before .before .before .before .cyclic-place .ensures (edges (result g proposed)) (table-is given made _ written)) (c .before .before .before .before .before .before .before .before .before .before .before .before .before .before .before .before .before .before .before .before .before .if1 .left) in (
+    let given = c .before .before .before .before .before .before .before .before .before .before .before .before .before .before .before .before .before .before .before .before .before .before .before .before .before .before .before .before .before .before .before .before .before .before .before .before .before .before .before .before .before .before .before .before .before .before .before .before .before .before .before .before .before .before .before .before .before .before .before .before .before .before .before .before .pre .2 in
+    let made = c .before .before .before .before .before .before .before .before .before .before .before .before .before .before .before .before .before .before .before .before .before .before .before .before .before .before .before .before .before .before .before .before .before .before .before .before .before .before .before .before .before .before .result-edges .ensures in
+    let reached = c .before .before .before .before .before .before .before .before .before .before .before .before .before .before .before .before .before .before .before .before .before .before .before .before .before .before .before .before .before .before .before .before .before .paths-between .ensures in
+    let found = c .before .before .before .before .before .before .before .before .before .before .before .before .before .before .before .before .before .before .before .before .before .before .before .before .before .before .cyclic-place .ensures in
+    let none = (no-cycle-found given (found _ (result-reached given made (reached _))) (c .before .before .before .before .before .before .before .before .before .before .before .before .before .before .before .before .before .before .before .before .before .before .before .before .before .if1 .left)) in (
       (result-sinks given made, result-delays given made),
       ((few-times given, output-there given), (result-ends given made, (result-acyclic given made none, times-filed given))),
     )
 
 returns-3 : tie.Need-returns-3
 returns-3 c =
-    let made = c .before .before .before .before .before .before .before .before .before .before .before .before .before .before .before .before .before .before .before .before .before .before .before .before .before .before .before .before .before .before .before .before .before .before .before .before .before .before .before .before .before .before .before .before .before .before .before .result-edges .ensures in
-    let written = c .before .before .before .before .before .before .before .before .before .before .before .before .before .before .before .before .before .before .before .before .before .before .before .before .before .before .before .before .before .before .before .before .before .least-table .ensures in (
+    let made = c .before .before .before .before .before .before .before .before .before .before .before .before .before .before .before .before .before .before .before .before .before .before .before .before .before .before .before .before .before .before .before .before .before .before .before .before .before .before .before .before .before .before .before .before .before .result-edges .ensures in
+    let reached = c .before .before .before .before .before .before .before .before .before .before .before .before .before .before .before .before .before .before .before .before .before .before .before .before .before .before .before .before .before .before .before .before .before .before .before .before .paths-between .ensures in
+    let found = c .before .before .before .before .before .before .before .before .before .before .before .before .before .before .before .before .before .before .before .before .before .before .before .before .before .before .before .before .before .cyclic-place .ensures in
+    let lost = c .before .before .before .before .before .before .before .before .before .before .before .before .before .before .before .lost-order .ensures in (
       λ g proposed given.
-          judged-15 given (no-cycle-found given (c .before .before .before .before .before .before .before .before .before .before .before .before .before .before .before .before .before .before .before .before .before .before .before .before .before .cyclic-place .ensures (edges (result g proposed)) (table-is given made _ written)) (c .before .before .before .before .before .before .before .before .before .before .before .before .before .before .before .before .before .before .before .before .before .before .before .before .if1 .left)) (c .before .before .before .before .before .before .before .before .before .before .before .before .before .before .before .lost-order .ensures (edges (result g proposed)) (table-is given made _ written)) (c .before .before .before .before .before .before .before .before .before .before .before .before .before .if2 .left) _
-          (c .before .before .latency .ensures ∙ late-is given made) (c .if3 .taken),
+          judged-15 given (no-cycle-found given (found _ (result-reached given made (reached _))) (c .before .before .before .before .before .before .before .before .before .before .before .before .before .before .before .before .before .before .before .before .before .before .before .before .before .before .before .before .if1 .left)) (lost-in-result given made lost) (c .before .before .before .before .before .before .before .before .before .before .before .before .before .if2 .left) _ (c .before .before .latency .ensures ∙ late-is given made) (c .if3 .taken),
       λ g proposed given thirteen. absurd (omega (arith, thirteen)),
     )
 
 returns-4 : tie.Need-returns-4
 returns-4 c =
-    let made = c .before .before .before .before .before .before .before .before .before .before .before .before .before .before .before .before .before .before .before .before .before .before .before .before .before .before .before .before .before .before .before .before .before .before .before .before .before .before .before .before .before .before .before .before .before .before .before .result-edges .ensures in
-    let written = c .before .before .before .before .before .before .before .before .before .before .before .before .before .before .before .before .before .before .before .before .before .before .before .before .before .before .before .before .before .before .before .before .before .least-table .ensures in (
+    let made = c .before .before .before .before .before .before .before .before .before .before .before .before .before .before .before .before .before .before .before .before .before .before .before .before .before .before .before .before .before .before .before .before .before .before .before .before .before .before .before .before .before .before .before .before .before .result-edges .ensures in
+    let reached = c .before .before .before .before .before .before .before .before .before .before .before .before .before .before .before .before .before .before .before .before .before .before .before .before .before .before .before .before .before .before .before .before .before .before .before .before .paths-between .ensures in
+    let found = c .before .before .before .before .before .before .before .before .before .before .before .before .before .before .before .before .before .before .before .before .before .before .before .before .before .before .before .before .before .cyclic-place .ensures in
+    let lost = c .before .before .before .before .before .before .before .before .before .before .before .before .before .before .before .lost-order .ensures in (
       λ g proposed given.
-          judged-0 given (no-cycle-found given (c .before .before .before .before .before .before .before .before .before .before .before .before .before .before .before .before .before .before .before .before .before .before .before .before .before .cyclic-place .ensures (edges (result g proposed)) (table-is given made _ written)) (c .before .before .before .before .before .before .before .before .before .before .before .before .before .before .before .before .before .before .before .before .before .before .before .before .if1 .left)) (c .before .before .before .before .before .before .before .before .before .before .before .before .before .before .before .lost-order .ensures (edges (result g proposed)) (table-is given made _ written)) (c .before .before .before .before .before .before .before .before .before .before .before .before .before .if2 .left) _
-          (c .before .before .latency .ensures ∙ late-is given made) (c .if3 .left),
+          judged-0 given (no-cycle-found given (found _ (result-reached given made (reached _))) (c .before .before .before .before .before .before .before .before .before .before .before .before .before .before .before .before .before .before .before .before .before .before .before .before .before .before .before .before .if1 .left)) (lost-in-result given made lost) (c .before .before .before .before .before .before .before .before .before .before .before .before .before .if2 .left) _ (c .before .before .latency .ensures ∙ late-is given made) (c .if3 .left),
       λ g proposed given thirteen. absurd (omega (arith, thirteen)),
     )
 
@@ -398,28 +355,20 @@ judge-spec =
     part-result-edges-end-6
     result-edges-requires
     cast-count
-    blank-table-requires
-    sub-least-table
-    part-least-table-start
-    part-least-table-end
-    sub-least-table-2
-    part-least-table-start-2
-    part-least-table-end-2
-    sub-least-table-3
-    part-least-table-start-3
-    part-least-table-end-3
-    slice-aggregate-least-table
-    least-table-requires
+    sub-paths-between
+    part-paths-between-start
+    part-paths-between-end
+    sub-paths-between-2
+    part-paths-between-start-2
+    part-paths-between-end-2
+    paths-between-requires
     sub-cyclic-place
     part-cyclic-place-start
     part-cyclic-place-end
     sub-cyclic-place-2
     part-cyclic-place-start-2
     part-cyclic-place-end-2
-    mul-cyclic-place
-    sub-cyclic-place-3
-    part-cyclic-place-start-3
-    part-cyclic-place-end-3
+    slice-aggregate-cyclic-place
     cyclic-place-requires
     returns
     sub-lost-order
@@ -431,10 +380,15 @@ judge-spec =
     sub-lost-order-3
     part-lost-order-start-3
     part-lost-order-end-3
-    mul-lost-order
     sub-lost-order-4
     part-lost-order-start-4
     part-lost-order-end-4
+    sub-lost-order-5
+    part-lost-order-start-5
+    part-lost-order-end-5
+    sub-lost-order-6
+    part-lost-order-start-6
+    part-lost-order-end-6
     lost-order-requires
     returns-2
     sub-latency
