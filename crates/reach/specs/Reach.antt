@@ -1,12 +1,15 @@
--- Only for contracts inside: words of 64 bits hold which tasks a path leads to.
+-- Only for contracts inside: words of 64 bits hold which tasks, or which processors, a path leads to.
 use mathlib.Core.Path.{_≡_}
 use mathlib.Core.Bool.{Bool, _||_, _&&_}
 use mathlib.Core.List.{List}
 use Prim.Native.Nat.{ℕ, _/_, _%_, _^_, _<_}
 use lib.Dec.{eqb}
 use lib.ListN.{length, getD}
+use Rattle.model.specs.Lists.{tabulate}
 use Rattle.model.specs.Tasks.{Edge}
+use Rattle.model.specs.Paths.{Path}
 use Rattle.model.specs.Compute.{present, leastDelay, through}
+use Rattle.records.specs.Columns.{at}
 
 -- bit b of a word is set, bit 0 the least significant
 unfoldable pub bit : ℕ → ℕ → Bool
@@ -30,3 +33,18 @@ pub record Through (k n : ℕ) (es : List Edge) (words : List ℕ) : Type 0 wher
 pub record Joined (n k : ℕ) (before after : List ℕ) : Type 0 where
   pub room : length after ≡ 64
   pub bits : (a b : ℕ) → a < n → bitAt after a b ≡ bitAt before a b || (bitAt before a k && bitAt before k b)
+
+-- ── Between processors ──
+
+-- the processor of each task of a list
+unfoldable pub processorsOf : List ℕ → List ℕ → List ℕ
+processorsOf processor tasks = tabulate (length tasks) (λ j. at processor (at tasks j))
+
+-- paths of es lead from each of n tasks to each one of its processor
+abbrev pub Circled : ℕ → List Edge → List ℕ → Type 0
+Circled n es processor = (a b : ℕ) → a < n → b < n → at processor a ≡ at processor b → (d : ℕ) × Path es a b d
+
+-- bit q of word p says that a path of es leads from a task of processor p to a task of processor q, for n tasks
+pub record ReachesOn (n : ℕ) (es : List Edge) (processor words : List ℕ) : Type 0 where
+  pub room : length words ≡ 64
+  pub paths : (a b : ℕ) → a < n → b < n → bitAt words (at processor a) (at processor b) ≡ present (leastDelay n es a b)

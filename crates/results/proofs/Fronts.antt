@@ -1,14 +1,15 @@
 -- Edges stored one behind the other: one entry more in each of three lists is one edge more. So the first entries of the lists hold the edges stored.
 use mathlib.Core.Path.{_≡_, refl, sym, ap, _∙_, subst}
 use mathlib.Core.Logic.{_⊎_, inl, inr}
+use mathlib.Core.Bool.{Bool, true, false}
 use mathlib.Core.List.{List, [], _∷_, _++_}
 use Prim.Native.Nat.{ℕ, suc, _+_, _≤_, _<_}
-use native.Mathlib.Nat.{not-suc-le-zero}
+use native.Mathlib.Nat.{not-suc-le-zero, le-refl, add-zero}
 use native.Mathlib.Numerals.{add-one}
 use native.Mathlib.Omega.{arith}
 use lib.ListN.{length, getD, take, set, length-set, length-append, List·getD-append}
-use lib.Seq.{take-suc-set, getD-at, length-take-le}
-use Rattle.model.specs.Lists.{tabulate}
+use lib.Seq.{take-suc-set, take-set-le, getD-at, length-take-le}
+use Rattle.model.specs.Lists.{tabulate, keep, counted}
 use Rattle.model.specs.Tasks.{Edge, noEdge}
 use Rattle.model.proofs.Basics.{below-suc}
 use Rattle.records.specs.Columns.{Column, heldEdge, edgesOf}
@@ -16,6 +17,7 @@ use Rattle.records.proofs.Edges.{edge-at, edges-of-columns}
 use Rattle.results.specs.declared.ResultEdges.{ResultEdges}
 use Rattle.results.specs.Results.{HeldResult}
 use Rattle.results.specs.Fronts.{Front, HeldFront}
+use Rattle.results.proofs.Keeping.{keep-more, keep-same}
 
 column-more :
     {A : Type 0} {missing : A} {part : A → ℕ} {rows : List A} {column : List ℕ} (row : A) → Column missing part rows column
@@ -66,6 +68,24 @@ held-more e held below = record {
   delays = front-more e (held .delays) below;
 }
 
+-- a number stored behind the front leaves it as it is
+front-under :
+    {part : Edge → ℕ} {es : List Edge} {size count : ℕ} {list : List ℕ} (x : ℕ) → Front part es size count list → Front part es size count (set list count x)
+front-under {part} {es} {size} {count} {list} x front = record {
+  as-many = front .as-many;
+  room = length-set list count x ∙ front .room;
+  column = subst (λ (xs : List ℕ). Column noEdge part es xs) (sym (take-set-le count list count x (le-refl count))) (front .column);
+}
+
+held-under :
+    {size count : ℕ} {source sink delay : List ℕ} {es : List Edge} (e : Edge) → HeldFront size count source sink delay es
+    → HeldFront size count (set source count (e .source)) (set sink count (e .sink)) (set delay count (e .delay)) es
+held-under e held = record {
+  sources = front-under (e .source) (held .sources);
+  sinks = front-under (e .sink) (held .sinks);
+  delays = front-under (e .delay) (held .delays);
+}
+
 front-same :
     {part : Edge → ℕ} {es es′ : List Edge} {size count count′ : ℕ} {list list′ : List ℕ} → Front part es size count list → es′ ≡ es → count′ ≡ count
     → list′ ≡ list → Front part es′ size count′ list′
@@ -82,6 +102,22 @@ held-same held p q r s t = record {
   sinks = front-same (held .sinks) p q s;
   delays = front-same (held .delays) p q t;
 }
+
+pub counted-one : (b : Bool) → counted b 1 ≤ 1
+unfolding counted
+counted-one true = omega arith
+counted-one false = omega arith
+
+-- an edge stored behind those kept, which counts if it passes the test
+pub kept-more :
+    (t : Edge → Bool) (xs : List Edge) {size kept one : ℕ} {source sink delay : List ℕ} (e : Edge) (b : Bool) → t e ≡ b → one ≡ counted b 1
+    → HeldFront size kept source sink delay (keep t xs) → kept < size
+    → HeldFront size (kept + one) (set source kept (e .source)) (set sink kept (e .sink)) (set delay kept (e .delay)) (keep t (xs ++ (e ∷ [])))
+unfolding counted
+kept-more t xs {kept = kept} e true is one-is held below =
+    held-same (held-more e held below) (keep-more t xs e is) (ap (λ (k : ℕ). kept + k) one-is) refl refl refl
+kept-more t xs {kept = kept} e false is one-is held below =
+    held-same (held-under e held) (keep-same t xs e is) (ap (λ (k : ℕ). kept + k) one-is ∙ add-zero kept) refl refl refl
 
 -- a list into which one number was stored has the room that it had
 pub stored-room : {size : ℕ} (list : List ℕ) (at x : ℕ) {list′ : List ℕ} → list′ ≡ set list at x → length list ≡ size → length list′ ≡ size

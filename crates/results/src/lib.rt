@@ -2,16 +2,19 @@
 // proposed ones.
 ghost use mathlib.Core.Path.{_≡_};
 ghost use mathlib.Core.List.{List, _++_};
-ghost use Prim.Native.Nat.{_+_, _≤_, _<_};
+ghost use Prim.Native.Nat.{ℕ, _+_, _≤_, _<_};
 ghost use lib.ListN.{length, set};
+ghost use Rattle.model.specs.Lists.{counted};
 ghost use Rattle.model.specs.Tasks.{Edge};
-ghost use Rattle.records.specs.Columns.{edgesOf};
+ghost use Rattle.records.specs.Columns.{edgesOf, at};
 ghost use Rattle.delays.specs.Delays.{Fit};
-ghost use Rattle.reach.specs.Reach.{Reaches};
+ghost use Rattle.reach.specs.Reach.{Reaches, Circled, ReachesOn};
 ghost use Rattle.results.specs.Results.{cyclic, resultOf, HeldResult};
 ghost use Rattle.results.specs.Fronts.{HeldFront};
 use reach::leads_to;
 use reach::paths_between;
+use reach::paths_between_processors;
+use reach::processor_of;
 
 // The edges of a result: the first `count` entries of the lists. 64 processor edges, 256 feedback edges and 256 proposed ones fit.
 pub struct ResultEdges {
@@ -53,6 +56,16 @@ pub fn store<'a>(
     to_delay[at] = delay;
 }
 
+// 1 if so, 0 if not.
+fn one_if(so: bool) -> usize
+    ensures { λ r. ⌜ r ≡ counted so 1 ⌝ }
+{
+    if so {
+        return 1;
+    }
+    0
+}
+
 // Stores the edges that lie on a cycle, where a path leads from the sink back to the source, at the front of three lists. Gives how many.
 fn keep_cyclic<'a, 'b>(
     source: &'a [u8],
@@ -81,6 +94,39 @@ fn keep_cyclic<'a, 'b>(
             store(s, t, delay[j], kept, to_source, to_sink, to_delay);
             kept += 1;
         }
+        j += 1;
+    }
+    kept
+}
+
+// The same by words between processors.
+fn keep_cyclic_on<'a, 'b>(
+    source: &'a [u8],
+    sink: &'a [u8],
+    delay: &'a [u8],
+    processor: &'a [u8],
+    words: &'a [u64],
+    to_source: &'b mut [u8],
+    to_sink: &'b mut [u8],
+    to_delay: &'b mut [u8],
+) -> usize
+    requires { ⌜ (length (now sink) ≡ length (now source)) × (length (now delay) ≡ length (now source)) ⌝ }
+    requires { ⌜ (length (now source) ≤ 320) × ((v : ℕ) → v < length (now processor) → at (now processor) v < 16) ⌝ }
+    requires { ⌜ Fit (length (now processor)) (edgesOf (now source) (now sink) (now delay)) ⌝ }
+    requires { ⌜ ReachesOn (length (now processor)) (edgesOf (now source) (now sink) (now delay)) (now processor) (now words) ⌝ }
+    requires { ⌜ (length (now «to_source») ≡ 576) × (length (now «to_sink») ≡ 576) × (length (now «to_delay») ≡ 576) ⌝ }
+    ensures { λ r. ⌜ r ≤ 320 ⌝ }
+    ensures { λ r. ⌜ HeldFront 576 r (now («to_source» .exit)) (now («to_sink» .exit)) (now («to_delay» .exit)) (cyclic (length (now (processor .entry))) (edgesOf (now (source .entry)) (now (sink .entry)) (now (delay .entry)))) ⌝ }
+{
+    let mut kept = 0;
+    let mut j = 0;
+    while j < source.len() {
+        let s = source[j];
+        let t = sink[j];
+        let from = processor_of(processor, t);
+        let to = processor_of(processor, s);
+        store(s, t, delay[j], kept, to_source, to_sink, to_delay);
+        kept += one_if(leads_to(words, from, to));
         j += 1;
     }
     kept
@@ -178,6 +224,58 @@ pub fn result_edges<'a>(
         delay,
         &words,
         tasks,
+        &mut to_source,
+        &mut to_sink,
+        &mut to_delay,
+    );
+    append(
+        proposed_source,
+        proposed_sink,
+        proposed_delay,
+        kept,
+        &mut to_source,
+        &mut to_sink,
+        &mut to_delay,
+    );
+    let count = kept + proposed_source.len();
+    ResultEdges {
+        count: count as u32,
+        source: to_source,
+        sink: to_sink,
+        delay: to_delay,
+    }
+}
+
+// The same where paths lead from each task to each one of its processor, as the processor edges do: paths between processors are fewer.
+pub fn result_edges_on<'a>(
+    source: &'a [u8],
+    sink: &'a [u8],
+    delay: &'a [u8],
+    processor: &'a [u8],
+    proposed_source: &'a [u8],
+    proposed_sink: &'a [u8],
+    proposed_delay: &'a [u8],
+) -> ResultEdges
+    requires { ⌜ (length (now sink) ≡ length (now source)) × (length (now delay) ≡ length (now source)) ⌝ }
+    requires { ⌜ (length (now «proposed_sink») ≡ length (now «proposed_source»)) × (length (now «proposed_delay») ≡ length (now «proposed_source»)) ⌝ }
+    requires { ⌜ (length (now source) ≤ 320) × (length (now «proposed_source») ≤ 256) ⌝ }
+    requires { ⌜ ((v : ℕ) → v < length (now processor) → at (now processor) v < 16) ⌝ }
+    requires { ⌜ Fit (length (now processor)) (edgesOf (now source) (now sink) (now delay)) ⌝ }
+    requires { ⌜ Circled (length (now processor)) (edgesOf (now source) (now sink) (now delay)) (now processor) ⌝ }
+    ensures { λ r. ⌜ HeldResult r (resultOf (length (now (processor .entry))) (edgesOf (now (source .entry)) (now (sink .entry)) (now (delay .entry))) (edgesOf (now («proposed_source» .entry)) (now («proposed_sink» .entry)) (now («proposed_delay» .entry)))) ⌝ }
+{
+    let reach = paths_between_processors(source, sink, processor);
+    let words = reach.words;
+    let lists = blank_lists();
+    let mut to_source = lists.source;
+    let mut to_sink = lists.sink;
+    let mut to_delay = lists.delay;
+    let kept = keep_cyclic_on(
+        source,
+        sink,
+        delay,
+        processor,
+        &words,
         &mut to_source,
         &mut to_sink,
         &mut to_delay,

@@ -3,17 +3,22 @@
 use mathlib.Core.Path.{_≡_, refl, sym, ap, _∙_, subst}
 use mathlib.Core.Logic.{_⊎_, inl, inr, _≢_}
 use mathlib.Core.Bool.{true, false, not}
-use mathlib.Core.List.{List, [], _∷_, _++_}
+use mathlib.Core.List.{List, [], _∷_, _++_, Memᴰ·append-left}
 use Prim.Native.Nat.{ℕ, zero, suc, _+_, _-_, _*_, _≤_, _<_}
 use native.Mathlib.Nat.{sub-zero}
 use native.Mathlib.Omega.{arith}
-use lib.ListN.{length, getD, take}
-use lib.Seq.{length-take-le}
-use Rattle.model.specs.Lists.{counted, tabulate}
-use Rattle.model.specs.Tasks.{Edge, Ends, noEdge}
+use lib.ListN.{length, getD, take, length-append}
+use lib.Seq.{length-take-le, getD-take}
+use Rattle.model.specs.Lists.{counted, tabulate, keep}
+use Rattle.model.specs.Tasks.{Edge, _∈_, Ends, noEdge, processorOf}
+use Rattle.model.specs.Processors.{processorEdges}
 use Rattle.model.specs.Graph.{Graph, WellFormed, count, edges, timeOf}
 use Rattle.model.specs.Paths.{AllHeld, syncAt}
 use Rattle.model.proofs.Basics.{place-member}
+use Rattle.model.proofs.Walks.{path-re-base}
+use Rattle.model.proofs.Processors.{processor-around}
+use Rattle.model.proofs.Graphs.{processor-edge-in}
+use Rattle.model.proofs.Results.{result-processor}
 use Rattle.model.specs.Compute.{leastDelay, present, onCycle, orderHolds, latency, latencyOf, zeroCycle}
 use Rattle.model.specs.Proposals.{result}
 use Rattle.files.specs.declared.Refusal.{Refusal}
@@ -21,24 +26,25 @@ use Rattle.files.specs.Refusals.{refuse, notRefused, first}
 use Rattle.files.specs.Files.{edgeIn, firstOf}
 use Rattle.files.proofs.First.{number-same}
 use Rattle.records.specs.Columns.{SourcesOf, SinksOf, DelaysOf, edgesOf, heldEdge, at}
-use Rattle.records.proofs.Fill.{length-tabulate}
-use Rattle.records.proofs.Edges.{edge-at, edge-in, edges-of-columns}
+use Rattle.records.proofs.Fill.{length-tabulate, getD-tabulate}
+use Rattle.records.proofs.Edges.{edge-at, edge-in, edges-length, edges-of-columns}
 use Rattle.records.proofs.Ordered.{sync-place}
 use Rattle.readings.specs.declared.GraphReading.{GraphReading}
 use Rattle.readings.specs.declared.ProposalReading.{ProposalReading}
-use Rattle.readings.specs.Working.{workingProposal}
+use Rattle.readings.specs.Working.{workingGraph, workingProposal}
 use Rattle.readings.specs.Theorems.{HeldEdges}
 use Rattle.readings.proofs.Held.{working-edges-hold}
 use Rattle.delays.specs.Delays.{delayTable, Fit}
 use Rattle.starts.specs.Starts.{FileTimes}
 use Rattle.delays.proofs.Table.{table-length, table-front, table-room}
 use Rattle.schedule.proofs.Fronts.{front, frontEdges, Fronts, Within, file-times, working-is, working-within, working-few, working-square, working-fit}
-use Rattle.reach.specs.Reach.{Reaches}
+use Rattle.reach.specs.Reach.{Circled, ReachesOn}
 use Rattle.results.specs.declared.ResultEdges.{ResultEdges}
-use Rattle.results.specs.Results.{resultOf, HeldResult}
+use Rattle.results.specs.Results.{cyclic, resultOf, HeldResult}
+use Rattle.results.proofs.Keeping.{keep-whole}
 use Rattle.results.proofs.Results.{result-edges-are}
 use Rattle.verdicts.specs.Verdicts.{someOnCycle, lostRefusal, judgedRefusal, timed, judgement, OpenPlace, HeldProposal, Judgeable}
-use Rattle.verdicts.specs.Tables.{FoundCyclic, nowhere, somewhere, lostFrom}
+use Rattle.verdicts.specs.Tables.{FoundCyclic, nowhere, somewhere, Among, lostFrom}
 use Rattle.verdicts.specs.Theorems.{FirstLost}
 use Rattle.verdicts.proofs.Chain.{stops-13, stops-14, stops-15, passed, some-found, none-found}
 use Rattle.verdicts.proofs.Tested.{result-fit, open-place, zero-cycle-false, orders-searched, search-passes, search-stops}
@@ -144,6 +150,53 @@ module _ {graph : GraphReading} {proposal : ProposalReading} {g : Graph} {propos
   pub original-fit : Fit (graph .tasks) (frontEdges graph)
   original-fit = working-fit well (given .graph-is)
 
+  -- ── The processors ──
+
+  abbrev processor : List ℕ
+  processor = front (graph .tasks) (graph .processor)
+
+  pub as-many-processors : length processor ≡ graph .tasks
+  unfolding workingGraph
+  as-many-processors =
+      front-length (graph .tasks) (graph .processor) (ap (λ (r : GraphReading). length (r .processor)) (given .graph-is) ∙ length-tabulate 64 (processorOf (g .tasks)))
+      few-tasks
+
+  pub processors-within : graph .tasks ≤ length (graph .processor)
+  unfolding workingGraph
+  processors-within =
+      omega (arith, few-tasks, ap (λ (r : GraphReading). length (r .processor)) (given .graph-is) ∙ length-tabulate 64 (processorOf (g .tasks)))
+
+  processor-is : (v : ℕ) → v < graph .tasks → at processor v ≡ processorOf (g .tasks) v
+  unfolding at workingGraph
+  processor-is v below =
+      ap (λ (k : ℕ). getD (take k (graph .processor)) v 0) (sub-zero (graph .tasks)) ∙
+      (getD-take (graph .tasks) (graph .processor) v 0 below ∙
+      (ap (λ (r : GraphReading). getD (r .processor) v 0) (given .graph-is) ∙ getD-tabulate 64 (processorOf (g .tasks)) 0 v (omega (arith, few-tasks))))
+
+  pub processors-small : (v : ℕ) → v < length processor → at processor v < 16
+  processors-small v below =
+      let inside : v < graph .tasks = subst (λ (k : ℕ). v < k) as-many-processors below in
+      subst (λ (k : ℕ). k < 16) (sym (processor-is v inside)) (well .processors v (omega (arith, graph-fronts .tasks-are)))
+
+  -- processor edges lead around
+  circled : (es : List Edge) → ((e : Edge) → e ∈ processorEdges (g .tasks) → e ∈ es) → Circled (length processor) es processor
+  circled es all a b l k same =
+      let la : a < graph .tasks = subst (λ (i : ℕ). a < i) as-many-processors l in
+      let lb : b < graph .tasks = subst (λ (i : ℕ). b < i) as-many-processors k in
+      (1, path-re-base all (processor-around (g .tasks) a b (omega (arith, graph-fronts .tasks-are)) (omega (arith, graph-fronts .tasks-are)) (sym (processor-is a la) ∙ (same ∙ processor-is b lb))))
+
+  pub graph-circled : Circled (length processor) (frontEdges graph) processor
+  graph-circled = circled (frontEdges graph) (λ e m. subst (λ (es : List Edge). e ∈ es) (sym (graph-fronts .held)) (processor-edge-in g m))
+
+  pub fit-by-processors : Fit (length processor) (frontEdges graph)
+  fit-by-processors = subst (λ (n : ℕ). Fit n (frontEdges graph)) (sym as-many-processors) original-fit
+
+  -- the result as made by processors
+  pub made-by-processors :
+      {r : ResultEdges} → HeldResult r (resultOf (length processor) (frontEdges graph) (frontProposed proposal)) →
+      HeldResult r (resultOf (graph .tasks) (frontEdges graph) (frontProposed proposal))
+  made-by-processors {r} made = subst (λ (n : ℕ). HeldResult r (resultOf n (frontEdges graph) (frontProposed proposal))) as-many-processors made
+
   pub result-is : resultOf (graph .tasks) (frontEdges graph) (frontProposed proposal) ≡ edges (result g proposed)
   result-is =
       (λ i. resultOf (graph-fronts .tasks-are i) (graph-fronts .held i) (proposed-fronts .held i)) ∙
@@ -161,13 +214,13 @@ module _ {graph : GraphReading} {proposal : ProposalReading} {g : Graph} {propos
 
   pub proposed-ends :
       (j : ℕ) → j < length (front (proposal .edges) (proposal .source)) →
-      (at (front (proposal .edges) (proposal .source)) j < graph .tasks) × (at (front (proposal .edges) (proposal .sink)) j < graph .tasks)
+      (at (front (proposal .edges) (proposal .source)) j < length processor) × (at (front (proposal .edges) (proposal .sink)) j < length processor)
   unfolding heldEdge at edgeIn
   proposed-ends j below =
       let inside : j < length proposed = subst (λ (n : ℕ). j < n) (proposed-fronts .as-many) below in
       let ends = given .formed .ends (edgeIn proposed j) (place-member proposed j noEdge inside) in
       let same = proposed-at j inside in
-      (subst (λ (n : ℕ). at (front (proposal .edges) (proposal .source)) j < n) (sym (graph-fronts .tasks-are)) (subst (λ (e : Edge). e .source < count g) same (ends .0)), subst (λ (n : ℕ). at (front (proposal .edges) (proposal .sink)) j < n) (sym (graph-fronts .tasks-are)) (subst (λ (e : Edge). e .sink < count g) same (ends .1)))
+      (subst (λ (n : ℕ). at (front (proposal .edges) (proposal .source)) j < n) (sym (as-many-processors ∙ graph-fronts .tasks-are)) (subst (λ (e : Edge). e .source < count g) same (ends .0)), subst (λ (n : ℕ). at (front (proposal .edges) (proposal .sink)) j < n) (sym (as-many-processors ∙ graph-fronts .tasks-are)) (subst (λ (e : Edge). e .sink < count g) same (ends .1)))
 
   module _ {r : ResultEdges} (made : HeldResult r (resultOf (graph .tasks) (frontEdges graph) (frontProposed proposal))) where
     pub result-held : frontResult r ≡ edges (result g proposed)
@@ -189,18 +242,44 @@ module _ {graph : GraphReading} {proposal : ProposalReading} {g : Graph} {propos
         (subst (λ (n : ℕ). Fit n (edges (result g proposed))) (sym (graph-fronts .tasks-are)) (result-fit g proposed well (given .formed)))
 
     -- where the paths of the lists lead, those of the result do
-    pub result-reached : {words : List ℕ} → Reaches (graph .tasks) (frontResult r) words → Reaches (graph .tasks) (edges (result g proposed)) words
-    result-reached {words} reached = subst (λ (es : List Edge). Reaches (graph .tasks) es words) result-held reached
+    pub result-reached :
+        {words : List ℕ} → ReachesOn (length processor) (frontResult r) processor words → ReachesOn (length processor) (edges (result g proposed)) processor words
+    result-reached {words} reached = subst (λ (es : List Edge). ReachesOn (length processor) es processor words) result-held reached
+
+    pub result-circled : Circled (length processor) (frontResult r) processor
+    result-circled = circled (frontResult r) (λ e m. subst (λ (es : List Edge). e ∈ es) (sym result-held) (result-processor g proposed m))
 
     pub result-joins :
         (j : ℕ) → j < length (front (r .count) (r .source)) →
-        (at (front (r .count) (r .source)) j < graph .tasks) × (at (front (r .count) (r .sink)) j < graph .tasks)
+        (at (front (r .count) (r .source)) j < length processor) × (at (front (r .count) (r .sink)) j < length processor)
     unfolding heldEdge at
     result-joins j below =
         let source = front (r .count) (r .source) in
         let sink = front (r .count) (r .sink) in
         let delay = front (r .count) (r .delay) in
-        held-fit .ends (heldEdge source sink delay j) (edge-in source sink delay j below)
+        let ends = held-fit .ends (heldEdge source sink delay j) (edge-in source sink delay j below) in
+        (omega (arith, ends .0, as-many-processors), omega (arith, ends .1, as-many-processors))
+
+    -- as many edges as the graph has and those proposed: every edge was kept
+    pub all-among :
+        length (front (r .count) (r .source)) ≡ length (front (graph .tasks + graph .edges) (graph .source)) + proposal .edges →
+        Among (front (graph .tasks + graph .edges) (graph .source)) (front (graph .tasks + graph .edges) (graph .sink))
+        (front (graph .tasks + graph .edges) (graph .delay)) (frontResult r)
+    unfolding resultOf cyclic
+    all-among whole j below =
+        let source = front (graph .tasks + graph .edges) (graph .source) in
+        let sink = front (graph .tasks + graph .edges) (graph .sink) in
+        let delay = front (graph .tasks + graph .edges) (graph .delay) in
+        let test = onCycle (graph .tasks) (frontEdges graph) in
+        let parts : r .count ≡ length (keep test (frontEdges graph)) + length (frontProposed proposal) =
+        made .as-many ∙ length-append (keep test (frontEdges graph)) (frontProposed proposal) in
+        let more : length (frontProposed proposal) ≡ proposal .edges = ap length (proposed-fronts .held) ∙ sym (proposed-fronts .edges-are) in
+        let as-many : length (keep test (frontEdges graph)) ≡ length (frontEdges graph) =
+        omega (arith, parts, more, whole, front-length (r .count) (r .source) (made .source-room) (made .few), edges-length source sink delay) in
+        let kept : keep test (frontEdges graph) ≡ frontEdges graph = keep-whole test (frontEdges graph) as-many in
+        let there : heldEdge source sink delay j ∈ frontEdges graph = edge-in source sink delay j below in
+        subst (λ (es : List Edge). heldEdge source sink delay j ∈ es) (sym (result-held ∙ (sym result-is ∙ ap (λ (es : List Edge). es ++ frontProposed proposal) kept)))
+        (Memᴰ·append-left (frontProposed proposal) there)
 
     -- the front of a table after the result's least delays were written
     pub table-within : {table : List ℕ} (past : List ℕ) → table ≡ delayTable (graph .tasks) (frontResult r) ++ past → graph .tasks * graph .tasks ≤ length table
@@ -238,7 +317,12 @@ module _ {graph : GraphReading} {proposal : ProposalReading} {g : Graph} {propos
       ap (onCycle (count g) (edges (result g proposed))) (proposed-at j below) ∙
       ap (λ (n : ℕ). present (leastDelay n (edges (result g proposed)) (getD (front (proposal .edges) (proposal .sink)) j 0) (getD (front (proposal .edges) (proposal .source)) j 0))) (sym (graph-fronts .tasks-are))
 
-  module _ {place : ℕ} (found : FoundCyclic (graph .tasks) (edges (result g proposed)) (front (proposal .edges) (proposal .source)) (front (proposal .edges) (proposal .sink)) place) where
+  module _ {place : ℕ} (found-on : FoundCyclic (length processor) (edges (result g proposed)) (front (proposal .edges) (proposal .source)) (front (proposal .edges) (proposal .sink)) place) where
+    found : FoundCyclic (graph .tasks) (edges (result g proposed)) (front (proposal .edges) (proposal .source)) (front (proposal .edges) (proposal .sink)) place
+    found =
+        subst (λ (n : ℕ). FoundCyclic n (edges (result g proposed)) (front (proposal .edges) (proposal .source)) (front (proposal .edges) (proposal .sink)) place)
+        as-many-processors found-on
+
     inside : (j : ℕ) → j < length (front (proposal .edges) (proposal .source)) → j < length proposed
     inside j below = subst (λ (n : ℕ). j < n) (proposed-fronts .as-many) below
 

@@ -6,7 +6,7 @@ use mathlib.Core.Bool.{Bool, true, false, not}
 use mathlib.Core.List.{List}
 use mathlib.Core.Option.{Option, none, some}
 use Prim.Native.Nat.{ℕ, suc, _+_, _-_, _*_, _≤_, _<_}
-use native.Mathlib.Nat.{sub-zero}
+use native.Mathlib.Nat.{sub-zero, le-refl}
 use native.Mathlib.Omega.{arith}
 use lib.ListN.{length, getD, take, set, replicate, length-set, length-replicate, getD-replicate}
 use lib.Seq.{length-take-le, getD-take, getD-set-same, getD-set-other}
@@ -26,7 +26,7 @@ use Rattle.records.proofs.Rows.{place-within, product-small}
 use Rattle.delays.specs.Delays.{entry, delayTable, Fit}
 use Rattle.delays.proofs.Table.{table-at}
 use Rattle.schedule.proofs.Fronts.{front}
-use Rattle.verdicts.specs.Tables.{Stepped, FirstAbove, all-within, above, between, lostFrom}
+use Rattle.verdicts.specs.Tables.{Among, Stepped, FirstAbove, all-within, above, between, lostFrom}
 
 -- a list is the table of least delays of rs, between n tasks
 pub record TableOf (n : ℕ) (rs : List Edge) (table : List ℕ) : Type 0 where
@@ -167,6 +167,16 @@ module _ {n : ℕ} (few : n ≤ 64) (source sink delay : List ℕ) (rs : List Ed
         sym
         (stops-nowhere (length source - n) (λ i. refuse (not (held i)) 14 (suc i)) {k = length source - n} (omega arith)
         (λ i earlier. not-lost i (order-kept i (omega arith) (kept i (omega arith)))))
+
+  -- no order is lost where the edges are all there
+  pub none-lost-among : Ends n rs → Among source sink delay rs → notRefused ≡ lostFrom n rs source sink delay
+  unfolding lostFrom
+  none-lost-among ends there =
+      sym
+      (stops-nowhere (length source - n) (λ i. refuse (not (held i)) 14 (suc i)) {k = length source - n} (omega arith)
+      (λ i earlier.
+      let e = heldEdge source sink delay (n + i) in
+      not-lost i (decides-yes (order-holds-is n rs ends e) (path-held ends e (path-edge (there (n + i) (omega arith))) (le-refl (e .delay))))))
 
   module _ {square : List ℕ} (ends : Ends n rs) (is : Stepped n rs square) where
     order-stepped : (i : ℕ) → n + i < length source → between n source sink (front (n * n) square) i ≤ getD delay (n + i) 0 → held i ≡ true

@@ -18,6 +18,10 @@ pub data FoundCyclic (n : ℕ) (rs : List Edge) (source sink : List ℕ) (r : �
   somewhere :
       (j : ℕ) → r ≡ suc j → j < length source → present (leastDelay n rs (at sink j) (at source j)) ≡ true → FoundCyclic n rs source sink r
 
+-- the edges that three lists hold stand in rs
+abbrev pub Among : List ℕ → List ℕ → List ℕ → List Edge → Type 0
+Among source sink delay rs = (j : ℕ) → j < length source → heldEdge source sink delay j ∈ rs
+
 -- a square of n times n entries: each that a delay can be, of at most 255, is no less than that of an edge of rs with these ends
 pub record Stepped (n : ℕ) (rs : List Edge) (square : List ℕ) : Type 0 where
   pub room : length square ≡ 4096

@@ -2,22 +2,23 @@
 ghost use mathlib.Core.Path.{_≡_};
 ghost use mathlib.Core.List.{List};
 ghost use mathlib.Core.Logic.{_⊎_};
-ghost use Prim.Native.Nat.{ℕ, _*_, _≤_, _<_};
+ghost use Prim.Native.Nat.{ℕ, _+_, _*_, _≤_, _<_};
 ghost use lib.ListN.{length, replicate};
 ghost use Rattle.model.specs.Tasks.{Edge};
 ghost use Rattle.model.specs.Graph.{Graph};
 ghost use Rattle.records.specs.Columns.{edgesOf, at};
 ghost use Rattle.delays.specs.Delays.{Fit};
-ghost use Rattle.reach.specs.Reach.{Reaches};
+ghost use Rattle.reach.specs.Reach.{ReachesOn};
 ghost use Rattle.verdicts.specs.Verdicts.{judgement, OpenPlace, Judgeable};
-ghost use Rattle.verdicts.specs.Tables.{FoundCyclic, Stepped, FirstAbove, lostFrom};
+ghost use Rattle.verdicts.specs.Tables.{FoundCyclic, Among, Stepped, FirstAbove, lostFrom};
 use delays::DelayTable;
 use files::Refusal;
 use reach::leads_to;
-use reach::paths_between;
+use reach::paths_between_processors;
+use reach::processor_of;
 use readings::GraphReading;
 use readings::ProposalReading;
-use results::result_edges;
+use results::result_edges_on;
 use tables::least_table;
 
 // The verdict on proposed edges: the refusal, and the latency of the result if it is accepted or late, 0 otherwise.
@@ -36,17 +37,17 @@ const LATE: Refusal = Refusal {
     place: 0,
 };
 
-// The place of an edge that lies on a cycle, counted from 1, or 0 if none does: by where the paths of the graph that has them lead.
-fn cyclic_place<'a>(source: &'a [u8], sink: &'a [u8], words: &'a [u64], tasks: usize) -> u32
-    requires { ⌜ (length (now sink) ≡ length (now source)) × (length (now source) ≤ 256) ⌝ }
-    requires { ⌜ (tasks ≤ 64) × (length (now words) ≡ 64) ⌝ }
-    requires { ⌜ ((j : ℕ) → j < length (now source) → (at (now source) j < tasks) × (at (now sink) j < tasks)) ⌝ }
-    ensures { λ r. ⌜ ((rs : List Edge) → Reaches tasks rs (now (words .entry)) → FoundCyclic tasks rs (now (source .entry)) (now (sink .entry)) r) ⌝ }
+// The place of an edge that lies on a cycle, counted from 1, or 0 if none does: by between which processors paths lead in the graph that has them.
+fn cyclic_place<'a>(source: &'a [u8], sink: &'a [u8], processor: &'a [u8], words: &'a [u64]) -> u32
+    requires { ⌜ (length (now sink) ≡ length (now source)) × (length (now source) ≤ 256) × (length (now words) ≡ 64) ⌝ }
+    requires { ⌜ ((v : ℕ) → v < length (now processor) → at (now processor) v < 16) ⌝ }
+    requires { ⌜ ((j : ℕ) → j < length (now source) → (at (now source) j < length (now processor)) × (at (now sink) j < length (now processor))) ⌝ }
+    ensures { λ r. ⌜ ((rs : List Edge) → ReachesOn (length (now (processor .entry))) rs (now (processor .entry)) (now (words .entry)) → FoundCyclic (length (now (processor .entry))) rs (now (source .entry)) (now (sink .entry)) r) ⌝ }
 {
     let mut j = 0;
     while j < source.len() {
-        let from = source[j] as usize;
-        let to = sink[j] as usize;
+        let from = processor_of(processor, source[j]);
+        let to = processor_of(processor, sink[j]);
         if leads_to(words, to, from) {
             return j as u32 + 1;
         }
@@ -125,8 +126,9 @@ fn first_above<'a>(
     PASSED
 }
 
-// 14: the first edge of a graph's file whose order is lost in the result. An edge of the result with the same ends and no more delay holds an order;
-// only where one lacks such an edge the least delays are worked out.
+// 14: the first edge of a graph's file whose order is lost in the result. None is where the result has as many edges as the graph and those proposed: then
+// it has every edge. An edge of the result with the same ends and no more delay holds an order; only where one lacks such an edge the least delays are
+// worked out.
 fn lost_order<'a>(
     source: &'a [u8],
     sink: &'a [u8],
@@ -134,15 +136,20 @@ fn lost_order<'a>(
     result_source: &'a [u8],
     result_sink: &'a [u8],
     result_delay: &'a [u8],
+    proposed: usize,
     tasks: usize,
 ) -> Refusal
     requires { ⌜ (length (now sink) ≡ length (now source)) × (length (now delay) ≡ length (now source)) ⌝ }
     requires { ⌜ (length (now «result_sink») ≡ length (now «result_source»)) × (length (now «result_delay») ≡ length (now «result_source»)) ⌝ }
-    requires { ⌜ (tasks ≤ length (now source)) × (length (now source) ≤ 320) × (tasks ≤ 64) ⌝ }
+    requires { ⌜ (tasks ≤ length (now source)) × (length (now source) ≤ 320) × (tasks ≤ 64) × (proposed ≤ 256) ⌝ }
+    requires { ⌜ (length (now «result_source») ≡ length (now source) + proposed → Among (now source) (now sink) (now delay) (edgesOf (now «result_source») (now «result_sink») (now «result_delay»))) ⌝ }
     requires { ⌜ Fit tasks (edgesOf (now source) (now sink) (now delay)) ⌝ }
     requires { ⌜ Fit tasks (edgesOf (now «result_source») (now «result_sink») (now «result_delay»)) ⌝ }
     ensures { λ r. ⌜ r ≡ lostFrom tasks (edgesOf (now («result_source» .entry)) (now («result_sink» .entry)) (now («result_delay» .entry))) (now (source .entry)) (now (sink .entry)) (now (delay .entry)) ⌝ }
 {
+    if result_source.len() == source.len() + proposed {
+        return PASSED;
+    }
     let blank = no_steps();
     let mut table = blank.delay;
     take_steps(result_source, result_sink, result_delay, tasks, &mut table);
@@ -169,11 +176,12 @@ pub fn judge(graph: GraphReading, proposal: ProposalReading) -> Judgement
     let proposed_source = proposal.source;
     let proposed_sink = proposal.sink;
     let proposed_delay = proposal.delay;
-    let result = result_edges(
+    let processor = graph.processor;
+    let result = result_edges_on(
         &source[0..end],
         &sink[0..end],
         &delay[0..end],
-        tasks,
+        &processor[0..tasks],
         &proposed_source[0..proposed],
         &proposed_sink[0..proposed],
         &proposed_delay[0..proposed],
@@ -182,13 +190,17 @@ pub fn judge(graph: GraphReading, proposal: ProposalReading) -> Judgement
     let result_source = result.source;
     let result_sink = result.sink;
     let result_delay = result.delay;
-    let reach = paths_between(&result_source[0..count], &result_sink[0..count], tasks);
+    let reach = paths_between_processors(
+        &result_source[0..count],
+        &result_sink[0..count],
+        &processor[0..tasks],
+    );
     let words = reach.words;
     let place = cyclic_place(
         &proposed_source[0..proposed],
         &proposed_sink[0..proposed],
+        &processor[0..tasks],
         &words,
-        tasks,
     );
     if place != 0 {
         return Judgement {
@@ -203,6 +215,7 @@ pub fn judge(graph: GraphReading, proposal: ProposalReading) -> Judgement
         &result_source[0..count],
         &result_sink[0..count],
         &result_delay[0..count],
+        proposed,
         tasks,
     );
     if lost.number != 0 {

@@ -1,0 +1,44 @@
+-- `reach::paths_between_processors` meets its contract: where paths lead between processors, they lead between the tasks on them.
+use borrow.Author.Needs.{needs}
+use lib.ListN.{length}
+use Rattle.records.specs.Columns.{edgesOf}
+use Rattle.reach.specs.Reach.{processorsOf}
+use Rattle.reach.proofs.Processors.{ends-held, reaches-on}
+use Rattle.reach.proofs.paths_between_processors.Statement.{statement}
+use Rattle.reach.proofs.paths_between_processors.Tie as tie
+
+no-paths-requires : tie.Need-no-paths-requires
+no-paths-requires c κs = search needs
+
+slice-aggregate-take-between : tie.Need-slice-aggregate-take-between
+slice-aggregate-take-between c = search needs
+
+take-between-requires : tie.Need-take-between-requires
+take-between-requires c κs = search needs
+
+slice-aggregate-join-all : tie.Need-slice-aggregate-join-all
+slice-aggregate-join-all c = search needs
+
+join-all-requires : tie.Need-join-all-requires
+join-all-requires c κs = search needs
+
+returns : tie.Need-returns
+returns c =
+    let source = c .before .before .before .before .before .before .before .before .before .before .before .args .source .now in
+    let sink = c .before .before .before .before .before .before .before .before .before .before .before .args .sink .now in
+    let processor = c .before .before .before .before .before .before .before .before .before .before .before .args .processor .now in
+    let asked = c .before .before .before .before .before .before .before .before .before .before .before .pre in
+    λ delay circled.
+    reaches-on source sink delay processor (length processor) (asked .0) (ends-held source sink delay (length processor) (asked .1 .0)) (asked .1 .1) circled
+    (c .before .join-all .ensures (edgesOf (processorsOf processor source) (processorsOf processor sink) delay) (c .before .before .before .before .take-between .ensures delay))
+
+pub paths-between-processors-spec : {M : Type 1} → statement M
+paths-between-processors-spec =
+    tie.close
+    (tie.spec
+    no-paths-requires
+    slice-aggregate-take-between
+    take-between-requires
+    slice-aggregate-join-all
+    join-all-requires
+    returns)
