@@ -1,12 +1,11 @@
 -- Only for contracts inside: what the pairs of tasks are worth as candidates of the plan, by numbers in lists, and which is the best.
 use mathlib.Core.Path.{_≡_}
 use mathlib.Core.Logic.{_⊎_}
-use mathlib.Core.Bool.{Bool, _&&_}
+use mathlib.Core.Bool.{_&&_}
 use mathlib.Core.List.{List}
 use Prim.Native.Nat.{ℕ, _+_, _*_, _≤_, _<_}
 use lib.Dec.{eqb, leb}
-use lib.ListN.{length}
-use Rattle.model.specs.Lists.{tabulate, keep, counted}
+use Rattle.model.specs.Lists.{tabulate, counted}
 use Rattle.model.specs.Tasks.{Edge}
 use Rattle.model.specs.Plan.{counting}
 use Rattle.records.specs.Columns.{at, rows}
@@ -20,17 +19,10 @@ countTable n es = rows n (λ a. tabulate n (λ b. entry (counting n es a b)))
 unfoldable pub tableAt : ℕ → List ℕ → ℕ → ℕ → ℕ
 tableAt n table a b = at table (a * n + b)
 
--- the pair (a, b) subsumes e, by such a table; 65,535, for none, is above every delay
-unfoldable pub subsumesBy : ℕ → List ℕ → ℕ → ℕ → Edge → Bool
-subsumesBy n table a b e = leb (tableAt n table (e .source) a + tableAt n table b (e .sink)) (e .delay)
-
--- there is no path from b to a, and a ends by the time at which b has to start
-unfoldable pub candidateBy : ℕ → List ℕ → List ℕ → List ℕ → ℕ → ℕ → Bool
-candidateBy n table end latest a b = eqb (tableAt n table b a) 65535 && leb (at end a) (at latest b)
-
--- what the pair (a, b) is worth beside the edges es
-unfoldable pub worthBy : ℕ → List ℕ → List ℕ → List ℕ → List Edge → ℕ → ℕ → ℕ
-worthBy n table end latest es a b = counted (candidateBy n table end latest a b) (length (keep (subsumesBy n table a b) es))
+-- what the pair (a, b) is worth by the counts of all pairs: nothing if a path leads back, or if a ends after the time at which b has to start
+unfoldable pub worthIn : List ℕ → List ℕ → List ℕ → List ℕ → ℕ → ℕ → ℕ
+worthIn counts to end latest a b =
+    counted (eqb (at to (a * 64 + b)) 32767 && leb (at end a) (at latest b)) (at counts (a * 64 + b))
 
 -- (a, b) is the pair of numbers below n that is worth most, two or more, the first such by a and then by b; if `gain` is below 2, no pair is worth two
 pub record BestPair (n : ℕ) (worth : ℕ → ℕ → ℕ) (gain a b : ℕ) : Type 0 where

@@ -9,7 +9,6 @@ ghost use Rattle.records.specs.Columns.{edgesOf, zeros, at};
 ghost use Rattle.order.specs.Order.{InOrder};
 ghost use Rattle.starts.specs.Starts.{FileTimes};
 ghost use Rattle.latest.specs.Latest.{earliestEnds, LatestStarts};
-use order::zero_order;
 use passes::settle_back;
 use starts::turn_starts;
 use waits::clear;
@@ -134,72 +133,4 @@ pub fn latest_along<'a>(
         row[v] = latest_start(row[v], time[v], bound);
         v += 1;
     }
-}
-
-// The earliest end of each task in the first turn, whatever the row held before.
-pub fn earliest_ends<'a>(
-    source: &'a [u8],
-    sink: &'a [u8],
-    delay: &'a [u8],
-    time: &'a [u16],
-    row: &mut [u32],
-)
-    requires { ⌜ (length (now sink) ≡ length (now source)) × (length (now delay) ≡ length (now source)) ⌝ }
-    requires { ⌜ (length (now time) ≡ length (now row)) × (length (now row) ≤ 64) ⌝ }
-    requires { ⌜ Ends (length (now row)) (edgesOf (now source) (now sink) (now delay)) ⌝ }
-    requires { ⌜ zeroCycle (length (now row)) (edgesOf (now source) (now sink) (now delay)) ≡ false ⌝ }
-    requires { ⌜ FileTimes (now time) ⌝ }
-    ensures { λ _. ⌜ now (row .exit) ≡ earliestEnds (length (now (row .entry))) (edgesOf (now (source .entry)) (now (sink .entry)) (now (delay .entry))) (at (now (time .entry))) ⌝ }
-{
-    let tasks = time.len();
-    let order = zero_order(source, sink, delay, tasks);
-    let order_source = order.source;
-    let order_sink = order.sink;
-    ends_along(
-        source,
-        sink,
-        delay,
-        &order_source,
-        &order_sink,
-        order.count as usize,
-        order.found,
-        time,
-        row,
-    );
-}
-
-// The latest start of each task with which the output can still end by the bound, whatever the row held before.
-pub fn latest_starts<'a>(
-    source: &'a [u8],
-    sink: &'a [u8],
-    delay: &'a [u8],
-    time: &'a [u16],
-    output: usize,
-    bound: u32,
-    row: &mut [u32],
-)
-    requires { ⌜ (length (now sink) ≡ length (now source)) × (length (now delay) ≡ length (now source)) ⌝ }
-    requires { ⌜ (length (now time) ≡ length (now row)) × (length (now row) ≤ 64) × (output < length (now row)) ⌝ }
-    requires { ⌜ Ends (length (now row)) (edgesOf (now source) (now sink) (now delay)) ⌝ }
-    requires { ⌜ zeroCycle (length (now row)) (edgesOf (now source) (now sink) (now delay)) ≡ false ⌝ }
-    requires { ⌜ FileTimes (now time) ⌝ }
-    requires { ⌜ (latency (length (now row)) (edgesOf (now source) (now sink) (now delay)) (at (now time)) output ≤ bound) × (bound < 8388608) ⌝ }
-    ensures { λ _. ⌜ LatestStarts (length (now (row .entry))) (edgesOf (now (source .entry)) (now (sink .entry)) (now (delay .entry))) (at (now (time .entry))) output bound (now (row .exit)) ⌝ }
-{
-    let order = zero_order(source, sink, delay, time.len());
-    let order_source = order.source;
-    let order_sink = order.sink;
-    latest_along(
-        source,
-        sink,
-        delay,
-        &order_source,
-        &order_sink,
-        order.count as usize,
-        order.found,
-        time,
-        output,
-        bound,
-        row,
-    );
 }

@@ -1,11 +1,12 @@
 -- What an accepted graph's working form gives to the first stage. The fronts of its lists hold all edges, and the parts behind the processor edges hold
--- those of the file; so the needed ones among these, by the marks of the redundant edges, are the first stage.
+-- those of the file; so the needed ones among these, by the marks of the redundant edges, are the first stage, and the table of the fronts' least delays
+-- is the graph's.
 use mathlib.Core.Path.{_≡_, refl, sym, ap, _∙_, subst}
 use mathlib.Core.Bool.{Bool, not, _&&_}
-use mathlib.Core.List.{List}
+use mathlib.Core.List.{List, _++_}
 use Prim.Native.Nat.{ℕ, _+_, _-_, _*_, _≤_, _<_}
 use native.Mathlib.Omega.{arith}
-use lib.ListN.{length}
+use lib.ListN.{length, drop, length-append, length-drop}
 use borrow.Rule.Slice.PartMut.{midOf}
 use Rattle.model.specs.Lists.{tabulate}
 use Rattle.model.specs.Tasks.{Edge, Ends, noEdge}
@@ -23,7 +24,8 @@ use Rattle.readings.specs.Working.{workingGraph}
 use Rattle.marks.specs.declared.Marks.{Marks}
 use Rattle.marks.specs.Marks.{marksOf, markAt}
 use Rattle.marks.proofs.Laws.{mark-of}
-use Rattle.delays.specs.Delays.{Fit}
+use Rattle.delays.specs.Delays.{delayTable, Fit}
+use Rattle.delays.proofs.Table.{table-length}
 use Rattle.redundancy.specs.Redundancy.{HeldGraph}
 use Rattle.schedule.specs.Schedule.{Scheduled}
 use Rattle.schedule.proofs.Fronts.{frontEdges, Fronts, Within, working-is, working-within, working-few, working-square, working-fit}
@@ -128,3 +130,21 @@ module _ {graph : GraphReading} {g : Graph} (given : Scheduled graph g) where
       {marks : Marks} → marks ≡ marksOf (isRedundant g) → needed (graph .tasks) (frontEdges graph) (markAt marks) (partEdges graph) ≡ firstStage g
   first-is marks-are =
       (λ i. needed (graph-fronts .tasks-are i) (graph-fronts .held i) (markAt (marks-are i)) (parts-held i)) ∙ needed-first
+
+  -- ── The table ──
+
+  pub table-is :
+      (first : List ℕ) {table : List ℕ} → table ≡ delayTable (graph .tasks) (frontEdges graph) ++ drop (graph .tasks * graph .tasks) first →
+      table ≡ delayTable (count g) (edges g) ++ drop (count g * count g) first
+  table-is first written =
+      written ∙
+      (λ i.
+      delayTable (graph-fronts .tasks-are i) (graph-fronts .held i) ++ drop (graph-fronts .tasks-are i * graph-fronts .tasks-are i) first)
+
+-- a list into which a table is written keeps its length
+pub table-kept :
+    (n : ℕ) (es : List Edge) (first : List ℕ) {table : List ℕ} → n * n ≤ length first → table ≡ delayTable n es ++ drop (n * n) first →
+    length table ≡ length first
+table-kept n es first room written =
+    let whole = ap length written ∙ length-append (delayTable n es) (drop (n * n) first) in
+    omega (arith, whole, table-length n es, length-drop (n * n) first)

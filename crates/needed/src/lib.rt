@@ -1,10 +1,10 @@
 // The first stage of the plan: the feedforward edges that are not redundant.
 ghost use mathlib.Core.Path.{_≡_};
-ghost use mathlib.Core.List.{List};
+ghost use mathlib.Core.List.{List, _++_};
 ghost use Prim.Native.Nat.{_*_, _≤_};
-ghost use lib.ListN.{length};
+ghost use lib.ListN.{length, drop};
 ghost use Rattle.model.specs.Tasks.{Edge, Ends};
-ghost use Rattle.model.specs.Graph.{Graph};
+ghost use Rattle.model.specs.Graph.{Graph, count, edges};
 ghost use Rattle.model.specs.Plan.{firstStage};
 ghost use Rattle.records.specs.Columns.{edgesOf};
 ghost use Rattle.marks.specs.Marks.{markAt};
@@ -13,7 +13,6 @@ ghost use Rattle.results.specs.Fronts.{HeldFront};
 ghost use Rattle.schedule.specs.Schedule.{Scheduled};
 ghost use Rattle.stages.specs.Stages.{HeldStage};
 ghost use Rattle.needed.specs.Needed.{needed};
-use delays::blank_table;
 use delays::has_path;
 use marks::Marks;
 use marks::is_marked;
@@ -60,25 +59,20 @@ fn keep_needed<'a, 'b>(
     kept
 }
 
-// The feedforward edges of an accepted graph that are not redundant, in the file's sequence.
-pub fn first_stage(graph: GraphReading) -> StageEdges
+// The feedforward edges of an accepted graph that are not redundant, in the file's sequence. The least delays between its tasks are left at the front
+// of the list, row by row.
+pub fn first_stage(graph: GraphReading, table: &mut [u16]) -> StageEdges
     requires { ⌜ ((g : Graph) × Scheduled graph g) ⌝ }
-    ensures { λ r. ⌜ ((g : Graph) → Scheduled graph g → HeldStage r (firstStage g)) ⌝ }
+    requires { ⌜ length (now table) ≡ 4096 ⌝ }
+    ensures stage { λ r. ⌜ ((g : Graph) → Scheduled graph g → HeldStage r (firstStage g)) ⌝ }
+    ensures table { λ _. ⌜ ((g : Graph) → Scheduled graph g → now (table .exit) ≡ delayTable (count g) (edges g) ++ drop (count g * count g) (now (table .entry))) ⌝ }
 {
     let tasks = graph.tasks as usize;
     let end = tasks + graph.edges as usize;
     let source = graph.source;
     let sink = graph.sink;
     let delay = graph.delay;
-    let blank = blank_table();
-    let mut table = blank.delay;
-    least_table(
-        &source[0..end],
-        &sink[0..end],
-        &delay[0..end],
-        tasks,
-        &mut table,
-    );
+    least_table(&source[0..end], &sink[0..end], &delay[0..end], tasks, table);
     let marks = redundant_marks(
         &source[0..end],
         &sink[0..end],

@@ -1,4 +1,5 @@
 -- The proofs that other crates may cite.
 pub mod Worths
-pub mod Staging
+pub mod Stepping
+pub mod FewEdges
 pub mod Planning

@@ -6,6 +6,8 @@ use mathlib.Core.Option.{Option, none, some}
 use Prim.Native.Nat.{ℕ, _+_, _≤_, _<_}
 use native.Mathlib.Numerals.{add-one}
 use native.Mathlib.Omega.{arith}
+use lib.Dec.{leb}
+use borrow.Author.Tests.{leb-true, leb-false}
 use Rattle.model.specs.Lists.{counted}
 use Rattle.model.specs.Tasks.{Edge}
 use Rattle.model.specs.Graph.{Graph, count}
@@ -20,24 +22,37 @@ use Rattle.stages.specs.declared.StageEdges.{StageEdges}
 use Rattle.schedule.specs.Schedule.{Scheduled}
 use Rattle.stages.specs.Stages.{HeldStage}
 use Rattle.plans.specs.declared.StepAnswer.{StepAnswer}
-use Rattle.plans.specs.Plans.{Staged, isTaken, orPresent, StepAnswered, PlanAnswered}
+use Rattle.prepared.specs.Ready.{Ready}
+use Rattle.present.specs.Present.{Staged}
+use Rattle.plans.specs.Plans.{isTaken, orPresent, StepAnswered, PlanAnswered}
+use Rattle.plans.proofs.FewEdges.{few-no-step}
 
--- where the loop stands: at a stage of the plan, the last one if it does not go on
-pub record Standing (g : Graph) (stage : StageEdges) (steps : ℕ) (going : Bool) : Type 0 where
+-- where the loop stands: at a stage of the plan, with its delays and counts if it goes on; the last one if it does not
+pub record Standing (g : Graph) (stage : StageEdges) (steps : ℕ) (going : Bool) (from to counts : List ℕ) : Type 0 where
   pub list : List Edge
   pub reached : Stage g steps list
   pub held : HeldStage stage list
   pub ended : going ≡ false → step g list ≡ none
+  pub ready : going ≡ true → Ready g list from to counts
 
 -- what is left to do: each step lowers the number of edges, and the last one ends
 abbrev pub left : StageEdges → Bool → ℕ
 left stage going = stage .count + counted going 1
 
 module _ {graph : GraphReading} {g : Graph} (scheduled : Scheduled graph g) where
-  pub standing-first : {stage : StageEdges} → HeldStage stage (firstStage g) → Standing g stage 0 true
-  standing-first held = record { list = firstStage g; reached = at-first refl refl; held = held; ended = λ q. absurd (true≢false q) }
+  -- at first, if there are two edges; with fewer there is no step
+  pub standing-first :
+      {stage : StageEdges} {from to counts : List ℕ} → HeldStage stage (firstStage g) → (2 ≤ stage .count → Ready g (firstStage g) from to counts) →
+      Standing g stage 0 (leb 2 (stage .count)) from to counts
+  standing-first {stage} held ready = record {
+    list = firstStage g;
+    reached = at-first refl refl;
+    held = held;
+    ended = λ q. few-no-step g (firstStage g) (omega (arith, leb-false 2 (stage .count) q, held .as-many));
+    ready = λ q. ready (leb-true 2 (stage .count) q);
+  }
 
-  module _ {stage : StageEdges} {steps : ℕ} {going : Bool} (here : Standing g stage steps going) where
+  module _ {stage : StageEdges} {steps : ℕ} {going : Bool} {from to counts : List ℕ} (here : Standing g stage steps going from to counts) where
     -- a stage of the plan would be accepted
     pub staged : Staged graph stage g (here .list)
     staged =
@@ -73,8 +88,11 @@ module _ {graph : GraphReading} {g : Graph} (scheduled : Scheduled graph g) wher
           go (some next) found = absurd (true≢false (sym (answer .taken ∙ ap isTaken found) ∙ left-out))
           go none found = (found, subst (λ (o : Option (List Edge)). HeldStage (r .stage) (orPresent o (here .list))) found (answer .held))
 
-      pub standing-next : r .taken ≡ true → Standing g (r .stage) (steps + 1) (r .taken)
-      standing-next taken =
+      pub standing-next :
+          {from′ to′ counts′ : List ℕ} → r .taken ≡ true → (r .taken ≡ true → Ready g (orPresent (step g (here .list)) (here .list)) from′ to′ counts′) →
+          Standing g (r .stage) (steps + 1) (r .taken) from′ to′ counts′
+      unfolding orPresent
+      standing-next {from′} {to′} {counts′} taken next =
           let t = taken-to taken in
           record {
             list = t .0;
@@ -83,11 +101,19 @@ module _ {graph : GraphReading} {g : Graph} (scheduled : Scheduled graph g) wher
                 (stage-next g (scheduled .accepted) (here .reached) (t .1));
             held = t .2;
             ended = λ q. absurd (true≢false (sym taken ∙ q));
+            ready = λ q. subst (λ (o : Option (List Edge)). Ready g (orPresent o (here .list)) from′ to′ counts′) (t .1) (next q);
           }
 
-      pub standing-last : r .taken ≡ false → Standing g (r .stage) steps (r .taken)
+      pub standing-last : {from′ to′ counts′ : List ℕ} → r .taken ≡ false → Standing g (r .stage) steps (r .taken) from′ to′ counts′
       standing-last left-out =
-          let t = not-taken left-out in record { list = here .list; reached = here .reached; held = t .1; ended = λ q. t .0 }
+          let t = not-taken left-out in
+          record {
+            list = here .list;
+            reached = here .reached;
+            held = t .1;
+            ended = λ q. t .0;
+            ready = λ q. absurd (true≢false (sym q ∙ left-out));
+          }
 
       pub left-next : r .taken ≡ true → left (r .stage) (r .taken) < left stage true
       unfolding counted

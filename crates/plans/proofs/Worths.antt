@@ -1,21 +1,21 @@
--- What a pair of tasks is worth by numbers in lists is what it is worth in the plan: an entry of the table is 65,535 exactly where there is no path, and a
--- pair is in time exactly if its source ends by the latest start of its sink.
+-- What a pair of tasks is worth by numbers in lists is what it is worth in the plan: a delay is 32,767 exactly where there is no path, and a
+-- pair is in time exactly if its source ends by the latest start of its sink. The lists of one stage, with a pair added, are those of the next.
 use mathlib.Core.Path.{_≡_, refl, sym, ap, _∙_, subst}
 use mathlib.Core.Logic.{_⊎_, inl, inr, _≢_}
 use mathlib.Core.Bool.{Bool, true, false, not, _&&_}
 use mathlib.Core.List.{List, [], _∷_, List·Memᴰ·head as here, List·Memᴰ·tail as there}
 use mathlib.Core.Option.{Option, none, some}
-use Prim.Native.Nat.{ℕ, _+_, _*_, _≤_, _<_, zero-le}
-use native.Mathlib.Nat.{le-refl}
+use Prim.Native.Nat.{ℕ, _+_, _*_, _≤_, _<_, min, zero-le}
+use native.Mathlib.Nat.{le-refl, add-comm}
 use native.Mathlib.Omega.{arith}
 use lib.Dec.{T, eqb, eqb→eq, eqb-refl, leb, leb→le, le→leb}
 use lib.ListN.{length, getD}
-use borrow.Author.Tests.{lt-leb}
+use borrow.Author.Tests.{le-leb, lt-leb}
 use Rattle.model.specs.Lists.{put, keep, counted, tabulate}
 use Rattle.model.specs.Tasks.{Edge, _∈_}
 use Rattle.model.specs.Graph.{Graph, count, timeOf, WellFormedEdges}
 use Rattle.model.specs.Paths.{Path, Least, smallest, no-path, stop, ZeroWalk, timesAlong, NoZeroCycle, Latency}
-use Rattle.model.specs.Compute.{atMost, plus, latency, latencyOf}
+use Rattle.model.specs.Compute.{atMost, lesser, plus, latency, latencyOf}
 use Rattle.model.specs.Proposals.{result, AcceptedGraph, AcceptedProposal}
 use Rattle.model.specs.Theorems.{Decides, OffCycles}
 use Rattle.model.specs.Plan.{presentEdges, withPair, Candidate, ifSame, counting, subsumes, gain, replaced, worth, step}
@@ -28,14 +28,18 @@ use Rattle.model.proofs.Accepted.{off-cycles-of, acyclic-result}
 use Rattle.model.proofs.Pairs.{pair-in-time, present-pair, present-no-way, candidate-apart, pair-off-cycles}
 use Rattle.model.proofs.Choices.{present-latency, candidate-is, step-found, step-none}
 use Rattle.model.proofs.Stages.{keep-lengths}
+use Rattle.model.proofs.Updates.{step-counting}
 use Rattle.records.specs.Columns.{at}
-use Rattle.records.proofs.Fill.{length-tabulate, getD-tabulate}
-use Rattle.records.proofs.Rows.{rows-length, rows-at}
-use Rattle.delays.specs.Delays.{entry, Fit}
+use Rattle.records.proofs.Fill.{getD-tabulate}
+use Rattle.delays.specs.Delays.{Fit}
 use Rattle.starts.proofs.Limits.{turn-fits}
 use Rattle.latest.specs.Latest.{earliestEnds, InTimeFrom, LatestStarts}
-use Rattle.candidates.specs.Candidates.{countTable, tableAt, subsumesBy, candidateBy, worthBy, BestPair}
+use Rattle.counts.specs.Counts.{subsumesBy, CountsOf}
+use Rattle.updates.specs.Updates.{PairAdded}
+use Rattle.candidates.specs.Candidates.{worthIn, BestPair}
 use Rattle.verdicts.proofs.Tested.{result-fit}
+use Rattle.prepared.specs.Ready.{cut, Ready}
+use Rattle.present.specs.Present.{Timed}
 
 -- ── Tests, and what they keep ──
 
@@ -58,37 +62,34 @@ unfolding counted
 counted-most true w = le-refl w
 counted-most false w = zero-le
 
--- The lists hold the numbers of the present graph: least delays, ends, latest starts.
-pub record Prepared (g : Graph) (list : List Edge) (table end latest : List ℕ) : Type 0 where
-  pub table-is : table ≡ countTable (count g) (presentEdges g list)
-  pub end-is : end ≡ earliestEnds (count g) (presentEdges g list) (timeOf g)
-  pub latest-is : LatestStarts (count g) (presentEdges g list) (timeOf g) (g .output) (g .bound) latest
+-- ── Delays ──
 
--- ── The table ──
+-- a sum with 32,767, for none, is above every delay
+sum-by-cuts : (x y : Option ℕ) (delay : ℕ) → delay ≤ 255 → leb (cut x + cut y) delay ≡ atMost (plus x y) delay
+unfolding cut atMost plus
+sum-by-cuts (some x) (some y) delay small = go (order (x + y) delay)
+  where
+    go : (x + y ≤ delay) ⊎ (delay < x + y) → leb (min x 32767 + min y 32767) delay ≡ leb (x + y) delay
+    go (inl l) = le-leb (min x 32767 + min y 32767) delay (omega arith) ∙ sym (le-leb (x + y) delay l)
+    go (inr l) = lt-leb (min x 32767 + min y 32767) delay (omega arith) ∙ sym (lt-leb (x + y) delay l)
+sum-by-cuts (some x) none delay small = lt-leb (min x 32767 + 32767) delay (omega arith)
+sum-by-cuts none y delay small = lt-leb (32767 + cut y) delay (omega arith)
 
-module _ (n : ℕ) (es : List Edge) where
-  row-length : (a : ℕ) → length (tabulate n (λ b. entry (counting n es a b))) ≡ n
-  row-length a = length-tabulate n (λ b. entry (counting n es a b))
+-- a delay below 32,767 is not the one for none
+finite : (d : ℕ) (other : Bool) → d < 32767 → T (eqb (min d 32767) 32767 && other) → ⊥
+finite d other l t = let q = eqb→eq (min d 32767) 32767 (and-left (eqb (min d 32767) 32767) other t) in omega arith
 
-  pub counts-length : length (countTable n es) ≡ n * n
-  unfolding countTable
-  counts-length = rows-length n (λ a. tabulate n (λ b. entry (counting n es a b))) row-length n
-
-  counts-at : (a b : ℕ) → a < n → b < n → tableAt n (countTable n es) a b ≡ entry (counting n es a b)
-  unfolding countTable tableAt at
-  counts-at a b la lb =
-      rows-at n (λ c. tabulate n (λ d. entry (counting n es c d))) row-length n a b la lb ∙ getD-tabulate n (λ d. entry (counting n es a d)) 0 b lb
-
--- a sum with 65,535, for none, is above every delay
-sum-by-entries : (x y : Option ℕ) (delay : ℕ) → delay ≤ 255 → leb (entry x + entry y) delay ≡ atMost (plus x y) delay
-unfolding entry atMost plus
-sum-by-entries (some x) (some y) delay small = refl
-sum-by-entries (some x) none delay small = lt-leb (x + 65535) delay (omega arith)
-sum-by-entries none y delay small = lt-leb (65535 + entry y) delay (omega arith)
-
--- an entry below 65,535 is not the one for none
-finite : (d : ℕ) (other : Bool) → d < 65535 → T (eqb d 65535 && other) → ⊥
-finite d other l t = let q = eqb→eq d 65535 (and-left (eqb d 65535) other t) in omega arith
+-- cutting respects the smaller of a delay and the sum of two
+cut-step : (x y z : Option ℕ) → min (cut x) (cut y + cut z) ≡ cut (lesser x (plus y z))
+unfolding plus lesser cut
+cut-step (some a) (some b) (some c) = omega arith
+cut-step (some a) (some b) none = omega arith
+cut-step (some a) none (some c) = omega arith
+cut-step (some a) none none = omega arith
+cut-step none (some b) (some c) = omega arith
+cut-step none (some b) none = omega arith
+cut-step none none (some c) = omega arith
+cut-step none none none = omega arith
 
 module _ (g : Graph) (list : List Edge) (graph : AcceptedGraph g) (formed : WellFormedEdges (count g) list) (accepted : AcceptedProposal g list) where
   off : OffCycles g list
@@ -107,10 +108,6 @@ module _ (g : Graph) (list : List Edge) (graph : AcceptedGraph g) (formed : Well
   unfolding presentEdges
   now-in-time = accepted .in-time
 
-  pub latency-within : latencyOf (result g list) ≤ g .bound
-  latency-within =
-      let r = now-in-time in subst (λ (l : ℕ). l ≤ g .bound) (latency-unique (r .1) (present-latency g list off)) (r .2)
-
   -- the task's end in the first turn, which the largest sum along a path of delay 0 to it gives
   abbrev endOf : ℕ → ℕ
   endOf a = latency (count g) (presentEdges g list) (timeOf g) a
@@ -124,46 +121,43 @@ module _ (g : Graph) (list : List Edge) (graph : AcceptedGraph g) (formed : Well
       turn-fits (present-fit .ends) acyclic {time = timeOf g} (λ v below. graph .formed .times v below .0) (graph .formed .at-most-64)
       (λ v below. graph .formed .times v below .1) a 1 la (omega arith) (omega arith)
 
-  module _ {table end latest : List ℕ} (ready : Prepared g list table end latest) where
-    entry-at : (a b : ℕ) → a < count g → b < count g → tableAt (count g) table a b ≡ entry (counting (count g) (presentEdges g list) a b)
-    entry-at a b la lb = ap (λ (t : List ℕ). tableAt (count g) t a b) (ready .table-is) ∙ counts-at (count g) (presentEdges g list) a b la lb
-
-    subsumes-by : (a b : ℕ) → a < count g → b < count g → (e : Edge) → e ∈ list →
-        subsumesBy (count g) table a b e ≡ subsumes (count g) (presentEdges g list) a b e
+  module _ {from to counts : List ℕ} (ready : Ready g list from to counts) where
+    pub subsumes-by : (a b : ℕ) → a < count g → b < count g → (e : Edge) → e ∈ list →
+        subsumesBy from to a b e ≡ subsumes (count g) (presentEdges g list) a b e
     unfolding subsumesBy subsumes
     subsumes-by a b la lb e m =
-        (λ i. leb (entry-at (e .source) a (formed .ends e m .0) la i + entry-at b (e .sink) lb (formed .ends e m .1) i) (e .delay)) ∙
-        sum-by-entries (counting (count g) (presentEdges g list) (e .source) a) (counting (count g) (presentEdges g list) b (e .sink)) (e .delay)
+        (λ i. leb (ready .from-is (e .source) a (formed .ends e m .0) la i + ready .to-is b (e .sink) lb (formed .ends e m .1) i) (e .delay)) ∙
+        sum-by-cuts (counting (count g) (presentEdges g list) (e .source) a) (counting (count g) (presentEdges g list) b (e .sink)) (e .delay)
         (formed .delays e m)
 
-    pub replaced-by : (a b : ℕ) → a < count g → b < count g →
-        withPair (keep (λ e. not (subsumesBy (count g) table a b e)) list) a b ≡ replaced g list a b
+    pub replaced-by : (a b : ℕ) → a < count g → b < count g → withPair (keep (λ e. not (subsumesBy from to a b e)) list) a b ≡ replaced g list a b
     unfolding replaced
     replaced-by a b la lb =
         ap (λ (es : List Edge). withPair es a b)
-        (keep-equal (λ e. not (subsumesBy (count g) table a b e)) (λ e. not (subsumes (count g) (presentEdges g list) a b e)) list
+        (keep-equal (λ e. not (subsumesBy from to a b e)) (λ e. not (subsumes (count g) (presentEdges g list) a b e)) list
         (λ e m. ap not (subsumes-by a b la lb e m)))
 
+  module _ {from to counts end latest : List ℕ} (ready : Ready g list from to counts) (timed : Timed g list end latest) where
     end-at : (a : ℕ) → a < count g → at end a ≡ endOf a
     unfolding earliestEnds at
-    end-at a la = ap (λ (xs : List ℕ). getD xs a 0) (ready .end-is) ∙ getD-tabulate (count g) (latency (count g) (presentEdges g list) (timeOf g)) 0 a la
+    end-at a la = ap (λ (xs : List ℕ). getD xs a 0) (timed .end-is) ∙ getD-tabulate (count g) (latency (count g) (presentEdges g list) (timeOf g)) 0 a la
 
     latest-at : (a b : ℕ) → a < count g → b < count g → T (leb (at end a) (at latest b)) →
         InTimeFrom (presentEdges g list) (timeOf g) (g .output) (g .bound) b (endOf a)
     latest-at a b la lb t =
-        ready .latest-is .latest b (endOf a) lb (omega (arith, end-small a la)) .0
+        timed .latest-is .latest b (endOf a) lb (omega (arith, end-small a la)) .0
         (subst (λ (h : ℕ). h ≤ at latest b) (end-at a la) (leb→le (at end a) (at latest b) t))
 
     at-latest : (a b : ℕ) → a < count g → b < count g → InTimeFrom (presentEdges g list) (timeOf g) (g .output) (g .bound) b (endOf a) →
         T (leb (at end a) (at latest b))
     at-latest a b la lb early =
         le→leb (at end a) (at latest b)
-        (subst (λ (h : ℕ). h ≤ at latest b) (sym (end-at a la)) (ready .latest-is .latest b (endOf a) lb (omega (arith, end-small a la)) .1 early))
+        (subst (λ (h : ℕ). h ≤ at latest b) (sym (end-at a la)) (timed .latest-is .latest b (endOf a) lb (omega (arith, end-small a la)) .1 early))
 
     -- Where no path leads back, the two sums of a path over the pair are the largest to a, which is its end, and any from b.
     in-time-by : (a b : ℕ) → a < count g → b < count g → ((d : ℕ) → Path (presentEdges g list) b a d → ⊥) →
         Decides (leb (at end a) (at latest b)) ((l : ℕ) × Latency (presentEdges g (withPair list a b)) (timeOf g) (g .output) l × (l ≤ g .bound))
-    in-time-by a b la lb none-back = decides-iff to from
+    in-time-by a b la lb none-back = decides-iff forth back
       where
         m : ℕ
         m = latencyOf (result g (withPair list a b))
@@ -189,8 +183,8 @@ module _ (g : Graph) (list : List Edge) (graph : AcceptedGraph g) (formed : Well
             pair-in-time (presentEdges g list) a b none-back apart (timeOf g) (g .output) (g .bound) (now-in-time .0) m (now-in-time .1) (now-in-time .2)
             (subst (λ (es : List Edge). Latency es (timeOf g) (g .output) m) (present-pair g list a b) whole) .1
 
-        to : T (leb (at end a) (at latest b)) → (l : ℕ) × Latency (presentEdges g (withPair list a b)) (timeOf g) (g .output) l × (l ≤ g .bound)
-        to t = (m, whole, from-sums sums)
+        forth : T (leb (at end a) (at latest b)) → (l : ℕ) × Latency (presentEdges g (withPair list a b)) (timeOf g) (g .output) l × (l ≤ g .bound)
+        forth t = (m, whole, from-sums sums)
           where
             sums : Sums
             sums x p q v w =
@@ -198,8 +192,8 @@ module _ (g : Graph) (list : List Edge) (graph : AcceptedGraph g) (formed : Well
                 let both = latest-at a b la lb t q w in
                 omega arith
 
-        from : (l : ℕ) × Latency (presentEdges g (withPair list a b)) (timeOf g) (g .output) l × (l ≤ g .bound) → T (leb (at end a) (at latest b))
-        from r = at-latest a b la lb early
+        back : (l : ℕ) × Latency (presentEdges g (withPair list a b)) (timeOf g) (g .output) l × (l ≤ g .bound) → T (leb (at end a) (at latest b))
+        back r = at-latest a b la lb early
           where
             within : m ≤ g .bound
             within = subst (λ (l : ℕ). l ≤ g .bound) (latency-unique (r .1) whole) (r .2)
@@ -211,17 +205,20 @@ module _ (g : Graph) (list : List Edge) (graph : AcceptedGraph g) (formed : Well
                 let both = to-sums within (s .0) (s .1) q (s .2) w in
                 omega arith
 
-    candidate-by : (a b : ℕ) → a < count g → b < count g → Decides (candidateBy (count g) table end latest a b) (Candidate g list a b)
-    unfolding candidateBy counting ifSame entry
+    abbrev tested : ℕ → ℕ → Bool
+    tested a b = eqb (at to (a * 64 + b)) 32767 && leb (at end a) (at latest b)
+
+    candidate-by : (a b : ℕ) → a < count g → b < count g → Decides (tested a b) (Candidate g list a b)
+    unfolding counting ifSame cut
     candidate-by a b la lb =
-        subst (λ (x : ℕ). Decides (eqb x 65535 && leb (at end a) (at latest b)) (Candidate g list a b)) (sym (entry-at b a lb la))
+        subst (λ (x : ℕ). Decides (eqb x 32767 && leb (at end a) (at latest b)) (Candidate g list a b)) (sym (ready .to-is b a lb la))
         (go (eqb b a) (eqb-decides b a) (least-delay (count g) (presentEdges g list) (present-fit .ends) b a))
       where
         early : Bool
         early = leb (at end a) (at latest b)
 
         go : (same : Bool) → Decides same (b ≡ a) → {o : Option ℕ} → Least (presentEdges g list) b a o →
-            Decides (eqb (entry (ifSame same o)) 65535 && leb (at end a) (at latest b)) (Candidate g list a b)
+            Decides (eqb (cut (ifSame same o)) 32767 && leb (at end a) (at latest b)) (Candidate g list a b)
         go true same l = decides-iff (λ t. absurd (finite 0 early (omega arith) t)) (λ c. absurd (candidate-apart g list c (same .if-true tt)))
         go false same (smallest {d = d} path below) =
             let least : Least (presentEdges g list) b a (some d) = smallest path below in
@@ -230,20 +227,21 @@ module _ (g : Graph) (list : List Edge) (graph : AcceptedGraph g) (formed : Well
         go false same (no-path none-back) =
             let timely = in-time-by a b la lb none-back in
             decides-iff
-            (λ t. record { source-task = la; sink-task = lb; no-path-back = none-back; in-time = timely .if-true (and-right (eqb 65535 65535) early t) })
-            (λ c. and-both (eqb 65535 65535) early (eqb-refl 65535) (decides-true timely (c .in-time)))
+            (λ t. record { source-task = la; sink-task = lb; no-path-back = none-back; in-time = timely .if-true (and-right (eqb 32767 32767) early t) })
+            (λ c. and-both (eqb 32767 32767) early (eqb-refl 32767) (decides-true timely (c .in-time)))
 
-    worth-by : (a b : ℕ) → a < count g → b < count g → worthBy (count g) table end latest list a b ≡ worth g list a b
-    unfolding worthBy worth gain
+    worth-by : (a b : ℕ) → a < count g → b < count g → worthIn counts to end latest a b ≡ worth g list a b
+    unfolding worthIn worth gain
     worth-by a b la lb =
         let same = decides-equal (candidate-by a b la lb) (candidate-is g list off a b la lb) in
         let kept =
-        keep-equal (subsumesBy (count g) table a b) (subsumes (count g) (presentEdges g list) a b) list (subsumes-by a b la lb) in
-        λ i. counted (same i) (length (kept i))
+        keep-equal (subsumesBy from to a b) (subsumes (count g) (presentEdges g list) a b) list (subsumes-by ready a b la lb) in
+        let many = ready .counts-are .each a b la (omega (arith, lb, graph .formed .at-most-64)) ∙ ap length kept in
+        λ i. counted (same i) (many i)
 
     -- ── The pair that is worth most ──
 
-    module _ {m a b : ℕ} (best : BestPair (count g) (worthBy (count g) table end latest list) m a b) where
+    module _ {m a b : ℕ} (best : BestPair (count g) (worthIn counts to end latest) m a b) where
       pub best-taken : 2 ≤ m → step g list ≡ some (replaced g list a b)
       best-taken two =
           let la = best .source-below two in
@@ -267,10 +265,60 @@ module _ (g : Graph) (list : List Edge) (graph : AcceptedGraph g) (formed : Well
               go (inr h) = h
 
       -- there is room for the pair, since it subsumes two edges
-      pub best-room : 2 ≤ m → length (keep (λ e. not (subsumesBy (count g) table a b e)) list) < 256
-      unfolding worthBy
+      pub best-room : 2 ≤ m → length (keep (λ e. not (subsumesBy from to a b e)) list) < 256
+      unfolding worthIn
       best-room two =
+          let la = best .source-below two in
+          let lb = best .sink-below two in
           let gained = best .worth-is two in
-          let most = counted-most (candidateBy (count g) table end latest a b) (length (keep (subsumesBy (count g) table a b) list)) in
-          let parts = keep-lengths (subsumesBy (count g) table a b) list in
-          omega (arith, gained, most, parts, formed .few)
+          let most = counted-most (tested a b) (at counts (a * 64 + b)) in
+          let many = ready .counts-are .each a b la (omega (arith, lb, graph .formed .at-most-64)) in
+          let parts = keep-lengths (subsumesBy from to a b) list in
+          omega (arith, gained, most, many, parts, formed .few)
+
+      -- it is a candidate, since it is worth something
+      best-candidate : 2 ≤ m → Candidate g list a b
+      unfolding worthIn counted
+      best-candidate two = go (tested a b) (candidate-by a b (best .source-below two) (best .sink-below two)) (best .worth-is two)
+        where
+          go : (t : Bool) → Decides t (Candidate g list a b) → counted t (at counts (a * 64 + b)) ≡ m → Candidate g list a b
+          go true decides q = decides .if-true tt
+          go false decides q = absurd (omega arith)
+
+      -- the lists with the pair added are those of the next stage
+      pub ready-next :
+          {from′ to′ counts′ : List ℕ} → 2 ≤ m → PairAdded (count g) a b from to from′ to′ →
+          CountsOf (count g) from′ to′ (withPair (keep (λ e. not (subsumesBy from to a b e)) list) a b) counts′ →
+          Ready g (replaced g list a b) from′ to′ counts′
+      ready-next {from′} {to′} {counts′} two added counted-next =
+          record {
+            from-size = added .from-size;
+            to-size = added .to-size;
+            from-small = added .from-small;
+            to-small = added .to-small;
+            from-is = λ x y lx ly.
+                added .from-is x y lx (wide y ly) ∙
+                ((λ i. min (ready .from-is x y lx ly i) (ready .to-is x a lx la i + ready .from-is b y lb ly i)) ∙ next x y lx ly);
+            to-is = λ x y lx ly.
+                added .to-is y x ly (wide x lx) ∙
+                ((λ i. min (ready .to-is x y lx ly i) (ready .from-is b y lb ly i + ready .to-is x a lx la i)) ∙
+                (ap (λ (s : ℕ). min (cut (delay x y)) s) (add-comm (cut (delay b y)) (cut (delay x a))) ∙ next x y lx ly));
+            counts-are = subst (λ (es : List Edge). CountsOf (count g) from′ to′ es counts′) (replaced-by ready a b la lb) counted-next;
+          }
+        where
+          la : a < count g
+          la = best .source-below two
+
+          lb : b < count g
+          lb = best .sink-below two
+
+          wide : (y : ℕ) → y < count g → y < 64
+          wide y ly = omega (arith, ly, graph .formed .at-most-64)
+
+          delay : ℕ → ℕ → Option ℕ
+          delay x y = counting (count g) (presentEdges g list) x y
+
+          next : (x y : ℕ) → x < count g → y < count g →
+              min (cut (delay x y)) (cut (delay x a) + cut (delay b y)) ≡ cut (counting (count g) (presentEdges g (replaced g list a b)) x y)
+          next x y lx ly =
+              cut-step (delay x y) (delay x a) (delay b y) ∙ ap cut (sym (step-counting g graph list formed accepted a b (best-candidate two) x y lx ly))

@@ -1,25 +1,14 @@
--- Only for contracts inside: a graph in its working form beside a stage of its plan, and what a step and the plan give.
+-- Only for contracts inside: what a step and the plan give.
 use mathlib.Core.Path.{_≡_}
 use mathlib.Core.Bool.{Bool, true, false}
 use mathlib.Core.List.{List}
 use mathlib.Core.Option.{Option, none, some}
 use Rattle.model.specs.Tasks.{Edge}
-use Rattle.model.specs.Graph.{Graph, WellFormedEdges, count}
-use Rattle.model.specs.Proposals.{AcceptedProposal}
+use Rattle.model.specs.Graph.{Graph}
 use Rattle.model.specs.Plan.{step, planOf, planLatency}
-use Rattle.readings.specs.declared.GraphReading.{GraphReading}
-use Rattle.stages.specs.declared.StageEdges.{StageEdges}
-use Rattle.schedule.specs.Schedule.{Scheduled}
 use Rattle.stages.specs.Stages.{HeldStage}
 use Rattle.plans.specs.declared.StepAnswer.{StepAnswer}
 use Rattle.plans.specs.declared.FoundPlan.{FoundPlan}
-
--- an accepted graph in its working form, and a stage: edges that would be accepted as a proposal
-pub record Staged (graph : GraphReading) (stage : StageEdges) (g : Graph) (list : List Edge) : Type 0 where
-  pub scheduled : Scheduled graph g
-  pub held : HeldStage stage list
-  pub formed : WellFormedEdges (count g) list
-  pub accepted : AcceptedProposal g list
 
 -- there is a next stage
 unfoldable pub isTaken : Option (List Edge) → Bool

@@ -40,22 +40,6 @@ fn joined(word: u64, row: u64, k: usize) -> u64
     word | row
 }
 
-// Sets the bit of each edge: the paths of one edge.
-fn take_edges<'a>(source: &'a [u8], sink: &'a [u8], tasks: usize, words: &mut [u64])
-    requires { ⌜ (length (now sink) ≡ length (now source)) × (tasks ≤ 64) ⌝ }
-    requires { ⌜ ((j : ℕ) → j < length (now source) → (at (now source) j < tasks) × (at (now sink) j < tasks)) ⌝ }
-    requires { ⌜ now words ≡ replicate 64 0 ⌝ }
-    ensures { λ _. ⌜ ((delay : List ℕ) → Through 0 tasks (edgesOf (now (source .entry)) (now (sink .entry)) delay) (now (words .exit))) ⌝ }
-{
-    let mut j = 0;
-    while j < source.len() {
-        let from = source[j] as usize;
-        let to = sink[j] as usize;
-        words[from] = with_bit(words[from], to);
-        j += 1;
-    }
-}
-
 // One round: a task from which a path leads to task k takes over where paths lead from k.
 fn join_through(k: usize, tasks: usize, words: &mut [u64])
     requires { ⌜ (k < tasks) × (tasks ≤ 64) × (length (now words) ≡ 64) ⌝ }
@@ -79,19 +63,6 @@ fn join_all(tasks: usize, words: &mut [u64])
         join_through(k, tasks, words);
         k += 1;
     }
-}
-
-// Between which tasks a path leads.
-pub fn paths_between<'a>(source: &'a [u8], sink: &'a [u8], tasks: usize) -> Reach
-    requires { ⌜ (length (now sink) ≡ length (now source)) × (tasks ≤ 64) ⌝ }
-    requires { ⌜ ((j : ℕ) → j < length (now source) → (at (now source) j < tasks) × (at (now sink) j < tasks)) ⌝ }
-    ensures { λ r. ⌜ ((delay : List ℕ) → Reaches tasks (edgesOf (now (source .entry)) (now (sink .entry)) delay) (r .words)) ⌝ }
-{
-    let blank = no_paths();
-    let mut words = blank.words;
-    take_edges(source, sink, tasks, &mut words);
-    join_all(tasks, &mut words);
-    Reach { words }
 }
 
 // The processor of a task.

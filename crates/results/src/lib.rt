@@ -12,7 +12,6 @@ ghost use Rattle.reach.specs.Reach.{Reaches, Circled, ReachesOn};
 ghost use Rattle.results.specs.Results.{cyclic, resultOf, HeldResult};
 ghost use Rattle.results.specs.Fronts.{HeldFront};
 use reach::leads_to;
-use reach::paths_between;
 use reach::paths_between_processors;
 use reach::processor_of;
 
@@ -66,40 +65,7 @@ fn one_if(so: bool) -> usize
     0
 }
 
-// Stores the edges that lie on a cycle, where a path leads from the sink back to the source, at the front of three lists. Gives how many.
-fn keep_cyclic<'a, 'b>(
-    source: &'a [u8],
-    sink: &'a [u8],
-    delay: &'a [u8],
-    words: &'a [u64],
-    tasks: usize,
-    to_source: &'b mut [u8],
-    to_sink: &'b mut [u8],
-    to_delay: &'b mut [u8],
-) -> usize
-    requires { ⌜ (length (now sink) ≡ length (now source)) × (length (now delay) ≡ length (now source)) ⌝ }
-    requires { ⌜ (tasks ≤ 64) × (length (now source) ≤ 320) ⌝ }
-    requires { ⌜ Fit tasks (edgesOf (now source) (now sink) (now delay)) ⌝ }
-    requires { ⌜ Reaches tasks (edgesOf (now source) (now sink) (now delay)) (now words) ⌝ }
-    requires { ⌜ (length (now «to_source») ≡ 576) × (length (now «to_sink») ≡ 576) × (length (now «to_delay») ≡ 576) ⌝ }
-    ensures { λ r. ⌜ r ≤ 320 ⌝ }
-    ensures { λ r. ⌜ HeldFront 576 r (now («to_source» .exit)) (now («to_sink» .exit)) (now («to_delay» .exit)) (cyclic tasks (edgesOf (now (source .entry)) (now (sink .entry)) (now (delay .entry)))) ⌝ }
-{
-    let mut kept = 0;
-    let mut j = 0;
-    while j < source.len() {
-        let s = source[j];
-        let t = sink[j];
-        if leads_to(words, t as usize, s as usize) {
-            store(s, t, delay[j], kept, to_source, to_sink, to_delay);
-            kept += 1;
-        }
-        j += 1;
-    }
-    kept
-}
-
-// The same by words between processors.
+// Stores the edges that lie on a cycle, where a path leads from the sink's processor back to the source's, at the front of three lists. Gives how many.
 fn keep_cyclic_on<'a, 'b>(
     source: &'a [u8],
     sink: &'a [u8],
@@ -196,57 +162,8 @@ pub fn with_edges<'a>(
     }
 }
 
-// The edges of the result of proposed edges, from the edges that order a graph.
-pub fn result_edges<'a>(
-    source: &'a [u8],
-    sink: &'a [u8],
-    delay: &'a [u8],
-    tasks: usize,
-    proposed_source: &'a [u8],
-    proposed_sink: &'a [u8],
-    proposed_delay: &'a [u8],
-) -> ResultEdges
-    requires { ⌜ (length (now sink) ≡ length (now source)) × (length (now delay) ≡ length (now source)) ⌝ }
-    requires { ⌜ (length (now «proposed_sink») ≡ length (now «proposed_source»)) × (length (now «proposed_delay») ≡ length (now «proposed_source»)) ⌝ }
-    requires { ⌜ (tasks ≤ 64) × (length (now source) ≤ 320) × (length (now «proposed_source») ≤ 256) ⌝ }
-    requires { ⌜ Fit tasks (edgesOf (now source) (now sink) (now delay)) ⌝ }
-    ensures { λ r. ⌜ HeldResult r (resultOf tasks (edgesOf (now (source .entry)) (now (sink .entry)) (now (delay .entry))) (edgesOf (now («proposed_source» .entry)) (now («proposed_sink» .entry)) (now («proposed_delay» .entry)))) ⌝ }
-{
-    let reach = paths_between(source, sink, tasks);
-    let words = reach.words;
-    let lists = blank_lists();
-    let mut to_source = lists.source;
-    let mut to_sink = lists.sink;
-    let mut to_delay = lists.delay;
-    let kept = keep_cyclic(
-        source,
-        sink,
-        delay,
-        &words,
-        tasks,
-        &mut to_source,
-        &mut to_sink,
-        &mut to_delay,
-    );
-    append(
-        proposed_source,
-        proposed_sink,
-        proposed_delay,
-        kept,
-        &mut to_source,
-        &mut to_sink,
-        &mut to_delay,
-    );
-    let count = kept + proposed_source.len();
-    ResultEdges {
-        count: count as u32,
-        source: to_source,
-        sink: to_sink,
-        delay: to_delay,
-    }
-}
-
-// The same where paths lead from each task to each one of its processor, as the processor edges do: paths between processors are fewer.
+// The edges of the result of proposed edges, from the edges that order a graph. Paths lead from each task to each one of its processor, as the processor
+// edges do, so paths between processors tell which edges lie on a cycle.
 pub fn result_edges_on<'a>(
     source: &'a [u8],
     sink: &'a [u8],

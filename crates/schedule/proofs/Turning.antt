@@ -1,37 +1,21 @@
 -- What the first turn tells of a graph: starts that keep every edge of delay 0 at times of 1 and more rule a cycle of delay 0 out, the lowest such starts are the earliest, and
 -- the tasks reached from the input tell whether it is joined to the output.
-use mathlib.Core.Path.{_≡_, sym, ap, subst}
+use mathlib.Core.Path.{_≡_, subst}
 use mathlib.Core.Bool.{false, not, _&&_}
-use mathlib.Core.List.{List, [], _++_}
-use Prim.Native.Nat.{ℕ, _+_, _≤_, _<_}
-use native.Mathlib.Nat.{le-refl}
+use mathlib.Core.List.{List}
+use Prim.Native.Nat.{ℕ, _≤_, _<_}
 use native.Mathlib.Omega.{arith}
 use lib.Dec.{not-T, eqb}
-use lib.ListN.{length, getD, List·getD-append}
 use Rattle.model.specs.Tasks.{Edge, Ends}
 use Rattle.model.specs.Runs.{Allows, estimates}
-use Rattle.model.specs.Compute.{zeroCycle, earliest, joined, latency}
+use Rattle.model.specs.Compute.{zeroCycle, earliest, joined}
 use Rattle.model.proofs.Basics.{is-false}
 use Rattle.model.proofs.Earliest.{run-acyclic}
 use Rattle.model.proofs.Theorems.{zero-cycle-is}
 use Rattle.records.specs.Columns.{at}
 use Rattle.reach.specs.Reach.{bit}
-use Rattle.waits.specs.Waits.{Awaits}
 use Rattle.turn.specs.Turn.{Turned}
-use Rattle.starts.proofs.Cycles.{acyclic}
-use Rattle.starts.proofs.Turns.{turn-is, none-ended}
 use Rattle.schedule.proofs.Reached.{joined-marked}
-
--- of as many tasks
-pub turn-sized :
-    {m n : ℕ} {es : List Edge} {time : ℕ → ℕ} {input reached : ℕ} {given row : List ℕ} → m ≡ n → Turned m es time input reached given row
-    → Turned n es time input reached given row
-turn-sized {m} {n} {es} {time} {input} {reached} {given} {row} same turned = subst (λ (k : ℕ). Turned k es time input reached given row) same turned
-
--- a start in a list with the turn's at its front
-pub front-start : (row past : List ℕ) {n : ℕ} → length row ≡ n → (v : ℕ) → v < n → getD (row ++ past) v 0 ≡ at row v
-unfolding at
-front-start row past {n} size v below = List·getD-append row past 0 v (subst (λ (m : ℕ). v < m) (sym size) below)
 
 pub below-same : {b x y : ℕ} → b < x → x ≡ y → b < y
 below-same {b} l same = subst (λ (z : ℕ). b < z) same l
@@ -51,13 +35,3 @@ module _
 
     pub turn-joined : (output : ℕ) → not (eqb input output) && bit reached output ≡ joined n es input output
     turn-joined output = joined-marked ends input (bit reached) (turned .first) (turned .on) output (turned .by)
-
-    module _ (blank : (v : ℕ) → v < n → at given v ≡ 0) where
-      pub turn-latency : (output : ℕ) → output < n → at row output + time output ≡ latency n es time output
-      unfolding latency
-      turn-latency output below =
-          ap (λ (x : ℕ). x + time output)
-          (turn-is ends (acyclic ends turn-acyclic) long (le-refl 1) (none-ended n es time []) waited (turned .settles) blank (λ f good v l. good .above v l) (turned .lowest) output below)
-        where
-          waited : Awaits n es [] 1 (at given) (at given)
-          waited = record { above = λ v l. le-refl (at given v); waits = λ e m p l. absurd (omega arith) }

@@ -7,3 +7,4 @@ pub mod Fronts
 pub mod Filling
 pub mod Ordered
 pub mod Later
+pub mod First

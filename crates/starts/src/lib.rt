@@ -11,6 +11,7 @@ ghost use Rattle.order.specs.Order.{InOrder};
 ghost use Rattle.starts.specs.Starts.{turnRow, turnRows, FileTimes, EndedBefore, Late};
 use order::zero_order;
 use passes::settle_along;
+use turn::first_turn;
 use waits::await_earlier;
 use waits::clear;
 use waits::ends_into;
@@ -184,7 +185,7 @@ pub fn latency_along<'a>(
     start[output] + time[output] as u32
 }
 
-// The latency of a graph without cycle of delay 0.
+// The latency of a graph without cycle of delay 0: from its first turn, or by rounds where that is not found.
 pub fn latency<'a>(
     source: &'a [u8],
     sink: &'a [u8],
@@ -199,20 +200,14 @@ pub fn latency<'a>(
     requires { ⌜ FileTimes (now time) ⌝ }
     ensures { λ r. ⌜ r ≡ latency (length (now (time .entry))) (edgesOf (now (source .entry)) (now (sink .entry)) (now (delay .entry))) (at (now (time .entry))) output ⌝ }
 {
-    let order = zero_order(source, sink, delay, time.len());
-    let order_source = order.source;
-    let order_sink = order.sink;
-    latency_along(
-        source,
-        sink,
-        delay,
-        &order_source,
-        &order_sink,
-        order.count as usize,
-        order.found,
-        time,
-        output,
-    )
+    let tasks = time.len();
+    let starts = no_starts();
+    let mut start = starts.start;
+    let turn = first_turn(source, sink, delay, time, output, &mut start[0..tasks]);
+    if turn.found {
+        return start[output] + time[output] as u32;
+    }
+    latency_along(source, sink, delay, source, sink, 0, false, time, output)
 }
 
 // The earliest starts of the first turns, turn by turn at the front of a list; elements past them keep what they held.

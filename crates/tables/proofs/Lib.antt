@@ -1,3 +1,3 @@
--- The proofs that other crates may cite.
+-- The proofs of this crate alone.
 mod Rounds
 mod Swept

@@ -12,13 +12,13 @@ use Rattle.candidates.proofs.best_counted.Statement.{statement}
 use Rattle.candidates.proofs.best_counted.Tie as tie
 
 abbrev Inv-loop : tie.InvT-loop
-Inv-loop counts column end latest a best₀ b₀ best b =
-    (b ≤ length column) ×
-    ((worth : ℕ → ℕ → ℕ) → ((d : ℕ) → d < length column → worth a d ≡ worthCounted column end latest counts d) → BestUp (length column) worth a 0 best₀ →
-    BestUp (length column) worth a b best)
+Inv-loop counts back end latest a best₀ b₀ best b =
+    (b ≤ length back) ×
+    ((worth : ℕ → ℕ → ℕ) → ((d : ℕ) → d < length back → worth a d ≡ worthCounted back end latest counts d) → BestUp (length back) worth a 0 best₀ →
+    BestUp (length back) worth a b best)
 
 abbrev μ-loop : tie.MeasureT-loop
-μ-loop counts column end latest a best₀ b₀ best b = length column - b
+μ-loop counts back end latest a best₀ b₀ best b = length back - b
 
 abbrev start : tie.In-loop Inv-loop μ-loop → tie.Start Inv-loop μ-loop
 start c = c .before .before
@@ -74,7 +74,7 @@ unfolding at
 loop-again c =
     let inner = c .before .before .before in
     let args = start inner .args in
-    let column = args .column .now in
+    let back = args .back .now in
     let latest = args .latest .now in
     let counts = args .counts .now in
     let end = args .end in
@@ -87,13 +87,13 @@ loop-again c =
           let worth-is = is b below in
           ⊎-elim
           (λ w.
-          let value = worth-is ∙ worth-in-time column end latest counts b (w .2 .taken) (w .4 .taken) in
+          let value = worth-is ∙ worth-in-time back end latest counts b (w .2 .taken) (w .4 .taken) in
           pair-taken best (start inner .pre .3) below value (w .0 .taken) (w .5))
           (⊎-elim
-          (λ w. pair-passed best (omega (arith, worth-is, worth-late column end latest counts b (w .2 .taken) (w .4 .left))) (w .5))
+          (λ w. pair-passed best (omega (arith, worth-is, worth-late back end latest counts b (w .2 .taken) (w .4 .left))) (w .5))
           (⊎-elim
-          (λ w. pair-passed best (omega (arith, worth-is, worth-with-path-back column end latest counts b (w .2 .left))) (w .3))
-          (λ w. pair-passed best (omega (arith, worth-is, worth-at-most column end latest counts b, w .0 .left)) (w .1))))
+          (λ w. pair-passed best (omega (arith, worth-is, worth-with-path-back back end latest counts b (w .2 .left))) (w .3))
+          (λ w. pair-passed best (omega (arith, worth-is, worth-at-most back end latest counts b, w .0 .left)) (w .1))))
           (c .if1 .came),
     )
 
@@ -101,7 +101,7 @@ returns : tie.Need-returns Inv-loop μ-loop
 returns c =
     λ worth is before.
     let args = c .before .before .args in
-    let n = length (args .column .now) in
+    let n = length (args .back .now) in
     let whole : c .before .loop .b ≡ n = omega arith in
     subst (λ (d : ℕ). BestUp n worth (args .a) d (c .before .loop .best)) whole (c .before .loop .inv .1 worth is before)
 

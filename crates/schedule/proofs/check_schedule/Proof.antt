@@ -11,9 +11,10 @@ use Rattle.model.specs.Tasks.{Ends}
 use Rattle.model.specs.Compute.{latency}
 use Rattle.records.specs.Columns.{edgesOf, zeros, at}
 use Rattle.starts.proofs.Limits.{end-as-u32}
+use Rattle.starts.proofs.First.{turn-sized, front-start, turn-latency}
 use Rattle.starts.proofs.Fronts.{front-room, front-length, front-at}
 use Rattle.schedule.proofs.Chain.{stops-10, stops-11, stops-12, passed}
-use Rattle.schedule.proofs.Turning.{turn-sized, front-start, below-same, at-most-same, turn-acyclic, turn-joined, turn-latency}
+use Rattle.schedule.proofs.Turning.{below-same, at-most-same, turn-acyclic, turn-joined}
 use Rattle.schedule.proofs.check_schedule.Statement.{statement}
 use Rattle.schedule.proofs.check_schedule.Tie as tie
 
@@ -143,7 +144,7 @@ returns-5 c =
     let turned = turn-sized long (said .1 .0 (not-false _ (c .before .before .before .before .before .before .if2 .left))) in
     let acyclic = turn-acyclic (pre .1 .1 .0 .ends) times turned in
     let free = sym (said .1 .1) in
-    let ended = turn-latency (pre .1 .1 .0 .ends) times turned (front-at 64 0 blank (pre .1 .0 .0)) (args .output) (pre .1 .0 .1) in
+    let ended = turn-latency (pre .1 .1 .0 .ends) acyclic times turned (front-at 64 0 blank (pre .1 .0 .0)) (args .output) (pre .1 .0 .1) in
     (sym (stops-12 n es time (args .input) (args .output) (args .bound) acyclic (free ∙ not-false _ (c .before .before .before .before .if3 .left)) (sym (turn-joined (pre .1 .1 .0 .ends) times turned (args .output)) ∙ (sym (c .before .before .before .is-reached .ensures) ∙ not-false _ (c .before .before .if4 .left))) (below-same (c .if5 .taken) (ap (λ (x : ℕ). x + time (args .output)) (front-start row _ (said .0 ∙ long) (args .output) (pre .1 .0 .1)) ∙ ended))), sym (if-refused 12 (latency n es time (args .output)) 0 (λ z. omega arith)))
 
 returns-6 : tie.Need-returns-6
@@ -162,7 +163,7 @@ returns-6 c =
     let turned = turn-sized long (said .1 .0 (not-false _ (c .before .before .before .before .before .before .if2 .left))) in
     let acyclic = turn-acyclic (pre .1 .1 .0 .ends) times turned in
     let free = sym (said .1 .1) in
-    let ended = turn-latency (pre .1 .1 .0 .ends) times turned (front-at 64 0 blank (pre .1 .0 .0)) (args .output) (pre .1 .0 .1) in
+    let ended = turn-latency (pre .1 .1 .0 .ends) acyclic times turned (front-at 64 0 blank (pre .1 .0 .0)) (args .output) (pre .1 .0 .1) in
     (sym (passed n es time (args .input) (args .output) (args .bound) acyclic (free ∙ not-false _ (c .before .before .before .before .if3 .left)) (sym (turn-joined (pre .1 .1 .0 .ends) times turned (args .output)) ∙ (sym (c .before .before .before .is-reached .ensures) ∙ not-false _ (c .before .before .if4 .left))) (at-most-same (c .if5 .left) (ap (λ (x : ℕ). x + time (args .output)) (front-start row _ (said .0 ∙ long) (args .output) (pre .1 .0 .1)) ∙ ended))), ap (λ (x : ℕ). x + time (args .output)) (front-start row _ (said .0 ∙ long) (args .output) (pre .1 .0 .1)) ∙ (ended ∙ sym (if-passed 0 (latency n es time (args .output)) 0 refl)))
 
 pub check-schedule-spec : {M : Type 1} → statement M

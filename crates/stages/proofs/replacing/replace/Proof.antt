@@ -7,7 +7,7 @@ use native.Mathlib.Omega.{arith}
 use Rattle.model.specs.Lists.{keep}
 use Rattle.model.specs.Tasks.{Edge, Ends}
 use Rattle.model.specs.Plan.{pairEdge, withPair}
-use Rattle.candidates.specs.Candidates.{subsumesBy}
+use Rattle.counts.specs.Counts.{subsumesBy}
 use Rattle.results.proofs.Fronts.{held-more, held-same}
 use Rattle.stages.proofs.Staged.{held-stage, frontStage, stage-held, stage-sinks, stage-delays, stage-few, few-left}
 use borrow.Author.Needs.{needs}
@@ -58,12 +58,12 @@ slice-aggregate-keep-others-3 c = search needs
 
 keep-others-requires : tie.Need-keep-others-requires
 keep-others-requires c κs =
-    let start = c .before .before .before .before .before .before .before .before .before .before .before .before .before .before .before .before .before .before in
+    let start = c .before .before .before .before .before .before .before .before .before .before .before .before .before .before .before .before .before .before .before in
     let asked = start .pre .0 in
     let holds = start .pre .1 .1 in (
       (stage-sinks holds, stage-delays holds),
       (
-        (asked .0, stage-few holds, asked .1, asked .2, asked .3),
+        (asked .0, stage-few holds, asked .1, asked .2, asked .3, asked .4),
         (
           subst (λ (es : List Edge). Ends (start .args .tasks) es) (sym (stage-held holds)) (start .pre .1 .2),
           c .before .before .before .before .before .before .before .before .before .before .before .before .blank-stage .ensures .1,
@@ -89,7 +89,7 @@ slice-aggregate-store-3 c = search needs
 -- fewer than 256 edges are stored before the pair's
 few-stored : (c : tie.After-keep-others) → c .keep-others .result < 256
 few-stored c =
-    let asked = c .before .before .before .before .before .before .before .before .before .before .before .before .before .before .before .before .before .before .before .pre .1 in
+    let asked = c .before .before .before .before .before .before .before .before .before .before .before .before .before .before .before .before .before .before .before .before .pre .1 in
     few-left (asked .1) _ (asked .3) (c .keep-others .ensures)
 
 store-requires : tie.Need-store-requires
@@ -98,18 +98,18 @@ store-requires c κs =
     let few = few-stored (c .before .before .before .before .before .before) in
     (omega (arith, few, held .sources .room), omega (arith, few, held .sinks .room), omega (arith, few, held .delays .room))
 
-cast-t45 : tie.Need-cast-t45
-cast-t45 c = omega (arith, few-stored (c .before .before .before .before .before .before .before .before .before .before))
+cast-t46 : tie.Need-cast-t46
+cast-t46 c = omega (arith, few-stored (c .before .before .before .before .before .before .before .before .before .before))
 
-add-t46 : tie.Need-add-t46
-add-t46 c = omega (arith, few-stored (c .before .before .before .before .before .before .before .before .before .before))
+add-t47 : tie.Need-add-t47
+add-t47 c = omega (arith, few-stored (c .before .before .before .before .before .before .before .before .before .before))
 
 returns : tie.Need-returns
 unfolding withPair pairEdge
 returns c = λ list holds.
-    let start = c .before .before .before .before .before .before .before .before .before .before .before .before .before .before .before .before .before .before .before .before .before .before .before .before .before .before .before .before .before in
+    let start = c .before .before .before .before .before .before .before .before .before .before .before .before .before .before .before .before .before .before .before .before .before .before .before .before .before .before .before .before .before .before in
     let args = start .args in
-    let t : Edge → Bool = λ e. not (subsumesBy (args .tasks) (args .table .now) (args .a) (args .b) e) in
+    let t : Edge → Bool = λ e. not (subsumesBy (args .from .now) (args .to .now) (args .a) (args .b) e) in
     let pair = pairEdge (args .a) (args .b) in
     let held = c .before .before .before .before .before .before .before .before .before .before .keep-others .ensures in
     let said = c .before .before .before .store .ensures in
@@ -143,6 +143,6 @@ replace-spec =
     slice-aggregate-store-2
     slice-aggregate-store-3
     store-requires
-    cast-t45
-    add-t46
+    cast-t46
+    add-t47
     returns)

@@ -1,0 +1,138 @@
+-- Counts of pairs, shifted one after the other: what an edge added is taken off and what it adds is put on.
+use mathlib.Core.Path.{_≡_, refl, sym, ap, _∙_, subst}
+use mathlib.Core.Logic.{_⊎_, inl, inr, ⊎-elim}
+use mathlib.Core.Bool.{Bool, true, false}
+use mathlib.Core.List.{List}
+use Prim.Native.Nat.{ℕ, _+_, _-_, _*_, _≤_, _<_}
+use native.Mathlib.Nat.{not-suc-le-zero, le-refl}
+use native.Mathlib.Omega.{arith}
+use lib.Dec.{leb}
+use lib.ListN.{length, set, length-set}
+use lib.Seq.{getD-set-same, getD-set-other}
+use borrow.Author.Tests.{le-leb, lt-leb}
+use Rattle.model.specs.Lists.{counted}
+use Rattle.model.proofs.Basics.{order}
+use Rattle.records.specs.Columns.{at}
+use Rattle.counts.specs.Counts.{share, RowShifted, EdgeShifted, Covered, SameTests}
+
+pub counted-few : (b : Bool) (w : ℕ) → counted b w ≤ w
+unfolding counted
+counted-few true w = le-refl w
+counted-few false w = omega arith
+
+-- ── One row ──
+
+module _ (was is : List ℕ) (start old new place : ℕ) where
+  pub row-none : (before : List ℕ) → RowShifted was is start old new place 0 before before
+  row-none before = record { size = refl; inside = λ b l. absurd (not-suc-le-zero l); outside = λ i out. refl }
+
+  pub row-more :
+      {k : ℕ} {before after : List ℕ} (v : ℕ) → RowShifted was is start old new place k before after → place + k < length after
+      → v + counted (leb (at was (start + k) + 1) old) 1 ≡ at after (place + k) + counted (leb (at is (start + k) + 1) new) 1
+      → RowShifted was is start old new place (k + 1) before (set after (place + k) v)
+  unfolding at
+  row-more {k} {before} {after} v done inside is-now = record {
+    size = length-set after (place + k) v ∙ done .size;
+    inside = λ b l. next b l (order k b);
+    outside = λ i out.
+        getD-set-other after (place + k) i v 0 (⊎-elim (λ l q. omega arith) (λ l q. omega arith) out) ∙
+        done .outside i (⊎-elim (λ l. inl l) (λ l. inr (omega arith)) out);
+  }
+    where
+      next : (b : ℕ) → b < k + 1 → (k ≤ b) ⊎ (b < k)
+          → at (set after (place + k) v) (place + b) + counted (leb (at was (start + b) + 1) old) 1
+          ≡ at before (place + b) + counted (leb (at is (start + b) + 1) new) 1
+      next b l (inl h) =
+          let same : b ≡ k = omega arith in
+          subst
+          (λ (x : ℕ).
+          at (set after (place + k) v) (place + x) + counted (leb (at was (start + x) + 1) old) 1
+          ≡ at before (place + x) + counted (leb (at is (start + x) + 1) new) 1) (sym same)
+          (omega (arith, getD-set-same after (place + k) v 0 inside, done .outside (place + k) (inr (omega arith)), is-now))
+      next b l (inr h) = omega (arith, getD-set-other after (place + k) (place + b) v 0 (λ q. omega arith), done .inside b h)
+
+-- ── One edge ──
+
+-- a sum is below a limit exactly if one of its numbers is below what the other leaves of it
+left-test : (x y limit : ℕ) → leb (y + 1) (limit - x) ≡ leb (x + y + 1) limit
+left-test x y limit = go (order (y + 1) (limit - x))
+  where
+    go : (y + 1 ≤ limit - x) ⊎ (limit - x < y + 1) → leb (y + 1) (limit - x) ≡ leb (x + y + 1) limit
+    go (inl l) = le-leb (y + 1) (limit - x) l ∙ sym (le-leb (x + y + 1) limit (omega arith))
+    go (inr l) = lt-leb (y + 1) (limit - x) l ∙ sym (lt-leb (x + y + 1) limit (omega arith))
+
+-- an edge's share by what its limit leaves
+pub share-left :
+    (from to : List ℕ) (s t limit a b : ℕ) {left : ℕ} → left ≡ limit - at from (s * 64 + a)
+    → counted (leb (at to (t * 64 + b) + 1) left) 1 ≡ share from to s t limit a b
+unfolding share
+share-left from to s t limit a b is =
+    ap (λ (l : ℕ). counted (leb (at to (t * 64 + b) + 1) l) 1) is ∙
+    ap (λ (x : Bool). counted x 1) (left-test (at from (s * 64 + a)) (at to (t * 64 + b)) limit)
+
+-- no share is left of nothing
+pub share-none : (y : ℕ) {left : ℕ} → left ≡ 0 → counted (leb (y + 1) left) 1 ≡ 0
+unfolding counted
+share-none y {left} is = ap (λ (x : Bool). counted x 1) (lt-leb (y + 1) left (omega arith))
+
+module _ (from to from′ to′ : List ℕ) (s t limit limit′ : ℕ) where
+  pub edge-none : (before : List ℕ) → EdgeShifted from to from′ to′ s t limit limit′ 0 before before
+  edge-none before = record { size = refl; inside = λ a b l. absurd (not-suc-le-zero l); outside = λ i out. refl }
+
+  module _ {a : ℕ} {before now : List ℕ} (done : EdgeShifted from to from′ to′ s t limit limit′ a before now) where
+    -- the row that is next has the edge's share
+    pub edge-covered :
+        {tasks old : ℕ} → Covered from to s t limit tasks before → a < tasks → old ≡ limit - at from (s * 64 + a) → (b : ℕ) → b < 64
+        → (counted (leb (at to (t * 64 + b) + 1) old) 1 ≤ at now (a * 64 + b)) × (at now (a * 64 + b) ≤ 256)
+    edge-covered {tasks} {old} covered below is b l =
+        let here = done .outside (a * 64 + b) (omega arith) in
+        let enough = covered a b below l in
+        let same = share-left from to s t limit a b is in
+        (omega (arith, here, enough .0, same), omega (arith, here, enough .1))
+
+    -- the next row, by what happens to it
+    next-row :
+        {after : List ℕ} → length after ≡ length now → ((i : ℕ) → (i < a * 64) ⊎ (a * 64 + 64 ≤ i) → at after i ≡ at now i)
+        → ((b : ℕ) → b < 64 → at after (a * 64 + b) + share from to s t limit a b ≡ at now (a * 64 + b) + share from′ to′ s t limit′ a b)
+        → EdgeShifted from to from′ to′ s t limit limit′ (a + 1) before after
+    next-row {after} size outside row = record {
+      size = size ∙ done .size;
+      inside = λ c b l m. go c b l m (order a c);
+      outside = λ i l. outside i (inr (omega arith)) ∙ done .outside i (omega arith);
+    }
+      where
+        go : (c b : ℕ) → c < a + 1 → b < 64 → (a ≤ c) ⊎ (c < a)
+            → at after (c * 64 + b) + share from to s t limit c b ≡ at before (c * 64 + b) + share from′ to′ s t limit′ c b
+        go c b l m (inl h) =
+            let same : c ≡ a = omega arith in
+            subst (λ (x : ℕ). at after (x * 64 + b) + share from to s t limit x b ≡ at before (x * 64 + b) + share from′ to′ s t limit′ x b) (sym same)
+            (omega (arith, row b m, done .outside (a * 64 + b) (omega arith)))
+        go c b l m (inr h) = omega (arith, outside (c * 64 + b) (inl (omega arith)), done .inside c b h m)
+
+    pub edge-moved :
+        {old new : ℕ} {after : List ℕ} → old ≡ limit - at from (s * 64 + a) → new ≡ limit′ - at from′ (s * 64 + a)
+        → RowShifted to to′ (t * 64) old new (a * 64) 64 now after → EdgeShifted from to from′ to′ s t limit limit′ (a + 1) before after
+    edge-moved was is row =
+        next-row (row .size) (λ i out. row .outside i out)
+        (λ b l. omega (arith, row .inside b l, share-left from to s t limit a b was, share-left from′ to′ s t limit′ a b is))
+
+    pub edge-passed :
+        {old new : ℕ} {same : Bool} → old ≡ limit - at from (s * 64 + a) → new ≡ limit′ - at from′ (s * 64 + a)
+        → (same ≡ true → SameTests to to′ t limit) → ((same ≡ true) × (old ≡ new)) ⊎ ((old ≡ 0) × (new ≡ 0))
+        → EdgeShifted from to from′ to′ s t limit limit′ (a + 1) before now
+    edge-passed {old} {new} was is tests (inl both) =
+        next-row refl (λ i out. refl)
+        (λ b l.
+        let passed : counted (leb (at to (t * 64 + b) + 1) old) 1 ≡ counted (leb (at to′ (t * 64 + b) + 1) new) 1
+        = ap (λ (x : Bool). counted x 1) (tests (both .0) b old l (omega arith)) ∙ ap (λ (x : ℕ). counted (leb (at to′ (t * 64 + b) + 1) x) 1) (both .1) in
+        omega (arith, passed, share-left from to s t limit a b was, share-left from′ to′ s t limit′ a b is))
+    edge-passed {old} {new} was is tests (inr none) =
+        next-row refl (λ i out. refl)
+        (λ b l.
+        omega (
+          arith,
+          share-none (at to (t * 64 + b)) (none .0),
+          share-none (at to′ (t * 64 + b)) (none .1),
+          share-left from to s t limit a b was,
+          share-left from′ to′ s t limit′ a b is,
+        ))

@@ -1,0 +1,52 @@
+-- Only for contracts inside: how many edges each pair of tasks subsumes, by delays in rows of 64 numbers, and how these counts change.
+use mathlib.Core.Path.{_≡_}
+use mathlib.Core.Logic.{_⊎_}
+use mathlib.Core.Bool.{Bool}
+use mathlib.Core.List.{List}
+use Prim.Native.Nat.{ℕ, _+_, _*_, _≤_, _<_}
+use lib.Dec.{leb}
+use lib.ListN.{length}
+use Rattle.model.specs.Lists.{counted, keep}
+use Rattle.model.specs.Tasks.{Edge}
+use Rattle.records.specs.Columns.{at}
+
+-- the pair (a, b) subsumes e, by the delays from its source and the delays to its sink; 32,767, for none, is above every delay
+unfoldable pub subsumesBy : List ℕ → List ℕ → ℕ → ℕ → Edge → Bool
+subsumesBy from to a b e = leb (at from (e .source * 64 + a) + at to (e .sink * 64 + b)) (e .delay)
+
+-- what an edge from s to t with this limit adds to the count of the pair (a, b)
+unfoldable pub share : List ℕ → List ℕ → ℕ → ℕ → ℕ → ℕ → ℕ → ℕ
+share from to s t limit a b = counted (leb (at from (s * 64 + a) + at to (t * 64 + b) + 1) limit) 1
+
+-- the counts of all pairs
+pub record CountsOf (tasks : ℕ) (from to : List ℕ) (es : List Edge) (counts : List ℕ) : Type 0 where
+  pub size : length counts ≡ 4096
+  pub each : (a b : ℕ) → a < tasks → b < 64 → at counts (a * 64 + b) ≡ length (keep (subsumesBy from to a b) es)
+
+-- Rows only fell, and each number of row x that fell is at least number x of `fell`.
+pub record RowsFell (tasks : ℕ) (before after fell : List ℕ) : Type 0 where
+  pub lower : (x y : ℕ) → x < tasks → y < 64 → at after (x * 64 + y) ≤ at before (x * 64 + y)
+  pub least : (x y : ℕ) → x < tasks → y < 64 → (at after (x * 64 + y) ≡ at before (x * 64 + y)) ⊎ (at fell x ≤ at after (x * 64 + y))
+
+-- The numbers of row t of two lists pass the same tests up to a limit.
+abbrev pub SameTests : List ℕ → List ℕ → ℕ → ℕ → Type 0
+SameTests to to′ t limit = (b l : ℕ) → b < 64 → l ≤ limit → leb (at to (t * 64 + b) + 1) l ≡ leb (at to′ (t * 64 + b) + 1) l
+
+-- The counts have the share of an edge, and are small.
+abbrev pub Covered : List ℕ → List ℕ → ℕ → ℕ → ℕ → ℕ → List ℕ → Type 0
+Covered from to s t limit tasks counts =
+    (a b : ℕ) → a < tasks → b < 64 → (share from to s t limit a b ≤ at counts (a * 64 + b)) × (at counts (a * 64 + b) ≤ 256)
+
+-- The first `many` counts of a row lost what numbers below `old` added, and have what numbers below `new` add; the others are as before.
+pub record RowShifted (was is : List ℕ) (start old new place many : ℕ) (before after : List ℕ) : Type 0 where
+  pub size : length after ≡ length before
+  pub inside : (b : ℕ) → b < many →
+      at after (place + b) + counted (leb (at was (start + b) + 1) old) 1 ≡ at before (place + b) + counted (leb (at is (start + b) + 1) new) 1
+  pub outside : (i : ℕ) → (i < place) ⊎ (place + many ≤ i) → at after i ≡ at before i
+
+-- The counts of the first `many` rows lost the share that an edge had, and have the one it gets; the others are as before.
+pub record EdgeShifted (from to from′ to′ : List ℕ) (s t limit limit′ many : ℕ) (before after : List ℕ) : Type 0 where
+  pub size : length after ≡ length before
+  pub inside : (a b : ℕ) → a < many → b < 64 →
+      at after (a * 64 + b) + share from to s t limit a b ≡ at before (a * 64 + b) + share from′ to′ s t limit′ a b
+  pub outside : (i : ℕ) → many * 64 ≤ i → at after i ≡ at before i

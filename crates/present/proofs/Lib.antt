@@ -1,0 +1,2 @@
+-- The proofs that other crates may cite.
+pub mod Staging

@@ -1,0 +1,4 @@
+-- The proofs that other crates may cite.
+pub mod Lines
+pub mod Falls
+pub mod Pairs
