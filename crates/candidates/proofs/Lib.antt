@@ -2,4 +2,5 @@
 pub mod Places
 pub mod Diagonal
 pub mod Worth
+pub mod Times
 pub mod Best

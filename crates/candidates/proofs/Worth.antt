@@ -8,14 +8,15 @@ use Prim.Native.Nat.{ℕ, _+_, _-_, _*_, _≤_, _<_}
 use native.Mathlib.Nat.{le-refl}
 use native.Mathlib.Omega.{arith}
 use lib.Dec.{eqb, leb}
-use lib.ListN.{drop}
+use lib.ListN.{length, drop}
 use lib.Seq.{getD-take, getD-drop}
-use borrow.Author.Tests.{eqb-true, eq-eqb, ne-eqb, le-leb, lt-leb}
+use borrow.Author.Tests.{eqb-true, leb-true, eq-eqb, ne-eqb, le-leb, lt-leb}
 use borrow.Rule.Slice.PartMut.{midOf}
 use Rattle.model.specs.Lists.{counted}
 use Rattle.records.specs.Columns.{at}
 use Rattle.candidates.specs.Candidates.{worthIn}
-use Rattle.candidates.specs.Searches.{worthCounted}
+use Rattle.candidates.specs.Searches.{worthCounted, unitsOf, UnitRow, RowFew}
+use Rattle.candidates.proofs.Times.{units-kept}
 
 counted-few : (b : Bool) (w : ℕ) → counted b w ≤ w
 unfolding counted
@@ -69,12 +70,17 @@ module _ {n : ℕ} (few : n ≤ 64) (counts to end latest : List ℕ) (a b : ℕ
       ap (λ (x : ℕ). counted (eqb x 32767 && leb (at end a) (at latest b)) (at (rowOf a counts) b))
       (sym (part-at (a * 64) (a * 64 + n) b to (omega arith)))
 
-  -- at most the largest count of the row without a path back
-  pub worth-few : {most : ℕ} → ((d : ℕ) → d < 64 → at to (a * 64 + d) ≡ 32767 → at counts (a * 64 + d) ≤ most) → worthIn counts to end latest a b ≤ most
+  -- at most what no count of the row exceeds that has no path back and is in time, by times in units
+  pub worth-few :
+      {power least : ℕ} {row : List ℕ} → length latest ≡ n → UnitRow latest power (length latest) row
+      → RowFew counts to (a * 64) least (unitsOf power (at end a)) row 64 → worthIn counts to end latest a b ≤ least
   unfolding worthIn counted
-  worth-few {most} largest = go (eqb (at to (a * 64 + b)) 32767) (eqb-true (at to (a * 64 + b)) 32767)
+  worth-few {power} {least} {row} size units none =
+      go (eqb (at to (a * 64 + b)) 32767) (leb (at end a) (at latest b)) (eqb-true (at to (a * 64 + b)) 32767) (leb-true (at end a) (at latest b))
     where
-      go : (none : Bool) → (none ≡ true → at to (a * 64 + b) ≡ 32767) → counted (none && leb (at end a) (at latest b)) (at counts (a * 64 + b)) ≤ most
-      go true is =
-          omega (arith, counted-few (true && leb (at end a) (at latest b)) (at counts (a * 64 + b)), largest b (omega arith) (is refl))
-      go false is = omega arith
+      go : (free in-time : Bool) → (free ≡ true → at to (a * 64 + b) ≡ 32767) → (in-time ≡ true → at end a ≤ at latest b)
+          → counted (free && in-time) (at counts (a * 64 + b)) ≤ least
+      go true true is by =
+          none b (omega arith) (is refl) (omega (arith, units .each b (omega arith), units-kept power (by refl)))
+      go true false is by = omega arith
+      go false in-time is by = omega arith

@@ -3,7 +3,8 @@ use mathlib.Core.Path.{_≡_}
 use mathlib.Core.Logic.{_⊎_}
 use mathlib.Core.Bool.{_&&_}
 use mathlib.Core.List.{List}
-use Prim.Native.Nat.{ℕ, _≤_, _<_}
+use Prim.Native.Nat.{ℕ, _+_, _/_, _^_, _≤_, _<_, min}
+use lib.ListN.{length}
 use lib.Dec.{eqb, leb}
 use Rattle.model.specs.Lists.{counted}
 use Rattle.records.specs.Columns.{at}
@@ -25,3 +26,17 @@ pub record BestBefore (n : ℕ) (worth : ℕ → ℕ → ℕ) (a b gain source s
   pub worth-is : 2 ≤ gain → worth source sink ≡ gain
   pub before : 2 ≤ gain → Earlier source sink a b
   pub first : 2 ≤ gain → (c d : ℕ) → d < n → Earlier c d a b → worth c d ≡ gain → (source < c) ⊎ ((source ≡ c) × (sink ≤ d))
+
+-- a time in units of a power of two, cut at 65,535
+abbrev pub unitsOf : ℕ → ℕ → ℕ
+unitsOf power time = min (time / 2 ^ power) 65535
+
+-- The first `many` numbers of a row are times in units.
+pub record UnitRow (times : List ℕ) (power many : ℕ) (row : List ℕ) : Type 0 where
+  pub size : length row ≡ 64
+  pub each : (b : ℕ) → b < many → at row b ≡ unitsOf power (at times b)
+
+-- Of the first `many` counts of a row, each without a path back and in time is at most `least`.
+abbrev pub RowFew : List ℕ → List ℕ → ℕ → ℕ → ℕ → List ℕ → ℕ → Type 0
+RowFew counts to start least end latest many =
+    (b : ℕ) → b < many → at to (start + b) ≡ 32767 → end ≤ at latest b → at counts (start + b) ≤ least

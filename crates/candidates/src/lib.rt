@@ -1,13 +1,15 @@
 // The best candidate of a step of the plan: the pair of tasks that subsumes most edges.
 ghost use mathlib.Core.Path.{_≡_};
+ghost use mathlib.Core.Logic.{_⊎_};
+ghost use mathlib.Core.Bool.{false};
 ghost use mathlib.Core.List.{List};
-ghost use Prim.Native.Nat.{ℕ, _+_, _*_, _≤_, _<_};
+ghost use Prim.Native.Nat.{ℕ, _+_, _*_, _≤_, _<_, min};
 ghost use lib.ListN.{length};
 ghost use Rattle.model.specs.Tasks.{Edge};
 ghost use Rattle.records.specs.Columns.{at};
 ghost use Rattle.delays.specs.Delays.{delayTable};
 ghost use Rattle.candidates.specs.Candidates.{countTable, worthIn, BestPair};
-ghost use Rattle.candidates.specs.Searches.{worthCounted, BestBefore};
+ghost use Rattle.candidates.specs.Searches.{worthCounted, BestBefore, unitsOf, UnitRow, RowFew};
 
 // A pair of tasks and how many edges it subsumes; below 2 if there is no pair to take.
 pub struct Pair {
@@ -34,38 +36,105 @@ pub fn zero_diagonal(table: &mut [u16], tasks: usize)
     }
 }
 
-// The greater of two numbers.
-fn greater(x: u16, y: u16) -> u16
-    ensures { λ r. ⌜ (x ≤ r) × (y ≤ r) ⌝ }
+// A number, cut at 65,535.
+fn cut(x: u32) -> u16
+    ensures { λ r. ⌜ r ≡ min x 65535 ⌝ }
 {
-    if x < y {
-        return y;
+    if x < 65535 {
+        return x as u16;
     }
-    x
+    65535
 }
 
-// A count if no path leads back, else 0.
-fn open_count(count: u16, back: u16) -> u16
-    ensures { λ r. ⌜ (back ≡ 32767 → r ≡ count) ⌝ }
+// A time in units of a power of two, cut at 65,535.
+fn units(time: u32, power: u32) -> u16
+    requires { ⌜ power < 32 ⌝ }
+    ensures { λ r. ⌜ r ≡ unitsOf power time ⌝ }
+{
+    cut(time >> power)
+}
+
+// Writes times in units to the first places of a row.
+fn unit_row(times: &[u32], power: u32, row: &mut [u16])
+    requires { ⌜ (power < 32) × (length (now times) ≤ 64) × (length (now row) ≡ 64) ⌝ }
+    ensures { λ _. ⌜ UnitRow (now (times .entry)) power (length (now (times .entry))) (now (row .exit)) ⌝ }
+{
+    let mut b = 0;
+    while b < times.len() {
+        row[b] = units(times[b], power);
+        b += 1;
+    }
+}
+
+// 1 if a count exceeds a number, no path leads back, and a source does not end after the latest start of the sink, else 0.
+fn exceeds(count: u16, least: u16, back: u16, end: u16, latest: u16) -> u16
+    ensures few { λ r. ⌜ r ≤ 1 ⌝ }
+    ensures none { λ r. ⌜ (r ≡ 0 → back ≡ 32767 → end ≤ latest → count ≤ least) ⌝ }
 {
     if back == NONE {
-        return count;
+        if end <= latest {
+            if least < count {
+                return 1;
+            }
+        }
     }
     0
 }
 
-// The largest count of a row without a path back.
-fn most_of<'a>(counts: &'a [u16], to: &'a [u16], start: usize) -> u16
-    requires { ⌜ (length (now counts) ≡ 4096) × (length (now to) ≡ 4096) × (start + 64 ≤ 4096) ⌝ }
-    ensures { λ r. ⌜ ((b : ℕ) → b < 64 → at (now (to .entry)) (start + b) ≡ 32767 → at (now (counts .entry)) (start + b) ≤ r) ⌝ }
+// How many counts of a row exceed a number, without a path back and in time by 16 bits of each time.
+fn exceeding<'a>(
+    counts: &'a [u16],
+    to: &'a [u16],
+    start: usize,
+    least: u16,
+    end: u16,
+    latest: &'a [u16],
+) -> u16
+    requires { ⌜ (start + 64 ≤ 4096) × (start + 64 ≤ length (now counts)) × (start + 64 ≤ length (now to)) × (length (now latest) ≡ 64) ⌝ }
+    ensures { λ r. ⌜ (r ≡ 0 → RowFew (now (counts .entry)) (now (to .entry)) start least end (now (latest .entry)) 64) ⌝ }
 {
-    let mut most = 0;
+    let mut many = 0;
     let mut b = 0;
     while b < WIDTH {
-        most = greater(most, open_count(counts[start + b], to[start + b]));
+        many += exceeds(counts[start + b], least, to[start + b], end, latest[b]);
         b += 1;
     }
-    most
+    many
+}
+
+// Whether a row may have a better pair: times are compared in units of 1 if the source's end fits 16 bits, else of 256.
+fn may_exceed<'a>(
+    counts: &'a [u16],
+    to: &'a [u16],
+    start: usize,
+    least: u16,
+    end: u32,
+    fine: &'a [u16],
+    coarse: &'a [u16],
+) -> bool
+    requires { ⌜ (start + 64 ≤ 4096) × (start + 64 ≤ length (now counts)) × (start + 64 ≤ length (now to)) × (length (now fine) ≡ 64) × (length (now coarse) ≡ 64) ⌝ }
+    ensures { λ r. ⌜ (r ≡ false → RowFew (now (counts .entry)) (now (to .entry)) start least (unitsOf 0 end) (now (fine .entry)) 64 ⊎ RowFew (now (counts .entry)) (now (to .entry)) start least (unitsOf 8 end) (now (coarse .entry)) 64) ⌝ }
+{
+    if end <= 65535 {
+        return exceeding(counts, to, start, least, units(end, 0), fine) != 0;
+    }
+    exceeding(counts, to, start, least, units(end, 8), coarse) != 0
+}
+
+// Whether a pair without a path back may subsume two edges, whatever the times.
+pub fn has_pair<'a>(counts: &'a [u16], to: &'a [u16], tasks: usize) -> bool
+    requires { ⌜ (tasks ≤ 64) × (tasks * 64 ≤ length (now counts)) × (tasks * 64 ≤ length (now to)) ⌝ }
+    ensures { λ r. ⌜ (r ≡ false → (a b : ℕ) → a < tasks → b < 64 → at (now (to .entry)) (a * 64 + b) ≡ 32767 → at (now (counts .entry)) (a * 64 + b) < 2) ⌝ }
+{
+    let any: [u16; 64] = [0; 64];
+    let mut a = 0;
+    while a < tasks {
+        if exceeding(counts, to, a * WIDTH, 1, 0, &any) != 0 {
+            return true;
+        }
+        a += 1;
+    }
+    false
 }
 
 // The best of the pairs out of task `a`, by the counts for their sinks, if it is better than the best before; `back` has the
@@ -102,8 +171,7 @@ fn best_counted<'a>(
 }
 
 // The pair that subsumes most edges, by the counts of all pairs, of those without a path back whose source ends by the time its sink has to
-// start: the first by source and then by sink. `to[a * 64 + b]` is the delay from b to a. A row of counts of which none exceeds the best has no
-// better pair.
+// start: the first by source and then by sink. `to[a * 64 + b]` is the delay from b to a. Rows that cannot have a better pair are passed over.
 pub fn best_pair<'a>(
     counts: &'a [u16],
     to: &'a [u16],
@@ -111,9 +179,13 @@ pub fn best_pair<'a>(
     latest: &'a [u32],
     tasks: usize,
 ) -> Pair
-    requires { ⌜ (tasks ≤ 64) × (length (now counts) ≡ 4096) × (length (now to) ≡ 4096) × (length (now end) ≡ tasks) × (length (now latest) ≡ tasks) ⌝ }
+    requires { ⌜ (tasks ≤ 64) × (tasks * 64 ≤ length (now counts)) × (tasks * 64 ≤ length (now to)) × (length (now end) ≡ tasks) × (length (now latest) ≡ tasks) ⌝ }
     ensures { λ r. ⌜ BestPair tasks (worthIn (now (counts .entry)) (now (to .entry)) (now (end .entry)) (now (latest .entry))) (r .gain) (r .source) (r .sink) ⌝ }
 {
+    let mut fine: [u16; 64] = [0; 64];
+    let mut coarse: [u16; 64] = [0; 64];
+    unit_row(latest, 0, &mut fine);
+    unit_row(latest, 8, &mut coarse);
     // One edge is not enough.
     let mut best = Pair {
         gain: 1,
@@ -123,8 +195,8 @@ pub fn best_pair<'a>(
     let mut a = 0;
     while a < tasks {
         let start = a * WIDTH;
-        let most = most_of(counts, to, start);
-        if best.gain < most as u32 {
+        let least = cut(best.gain);
+        if may_exceed(counts, to, start, least, end[a], &fine, &coarse) {
             best = best_counted(
                 &counts[start..start + WIDTH],
                 &to[start..start + tasks],

@@ -13,12 +13,51 @@ use borrow.Author.Tests.{le-leb, lt-leb}
 use Rattle.model.specs.Lists.{counted}
 use Rattle.model.proofs.Basics.{order}
 use Rattle.records.specs.Columns.{at}
-use Rattle.counts.specs.Counts.{share, RowShifted, EdgeShifted, Covered, SameTests}
+use Rattle.counts.specs.Counts.{share, Still, LeftRow, RowsMarked, RowShifted, EdgeShifted, Covered, SameTests}
 
 pub counted-few : (b : Bool) (w : ℕ) → counted b w ≤ w
 unfolding counted
 counted-few true w = le-refl w
 counted-few false w = omega arith
+
+-- ── What is left, and which rows have to be looked at ──
+
+-- numbers stored one after the other from the front: each is as it has to be
+front-more :
+    (P : ℕ → ℕ → Type 0) {k : ℕ} (xs : List ℕ) (v : ℕ) → k < length xs → ((i : ℕ) → i < k → P i (at xs i)) → P k v
+    → (i : ℕ) → i < k + 1 → P i (at (set xs k v) i)
+unfolding at
+front-more P {k} xs v inside each last i l = go (order k i)
+  where
+    go : (k ≤ i) ⊎ (i < k) → P i (at (set xs k v) i)
+    go (inl h) =
+        let same : i ≡ k = omega arith in
+        subst (λ (j : ℕ). P j (at (set xs k v) j)) (sym same) (subst (P k) (sym (getD-set-same xs k v 0 inside)) last)
+    go (inr h) = subst (P i) (sym (getD-set-other xs k i v 0 (λ q. omega arith))) (each i h)
+
+module _ (delays : List ℕ) (start limit : ℕ) where
+  pub left-none : (left : List ℕ) → length left ≡ 64 → LeftRow delays start limit 0 left
+  left-none left size = record { size = size; each = λ a l. absurd (not-suc-le-zero l) }
+
+  pub left-more :
+      {k : ℕ} {left : List ℕ} (v : ℕ) → LeftRow delays start limit k left → k < 64 → v ≡ limit - at delays (start + k)
+      → LeftRow delays start limit (k + 1) (set left k v)
+  left-more {k} {left} v done few is = record {
+    size = length-set left k v ∙ done .size;
+    each = front-more (λ a x. x ≡ limit - at delays (start + a)) left v (omega (arith, done .size)) (done .each) is;
+  }
+
+module _ (old new : List ℕ) (same : Bool) where
+  pub marks-none : (marks : List ℕ) → length marks ≡ 64 → RowsMarked old new same 0 marks
+  marks-none marks size = record { size = size; each = λ a l. absurd (not-suc-le-zero l) }
+
+  pub marks-more :
+      {k : ℕ} {marks : List ℕ} (v : ℕ) → RowsMarked old new same k marks → k < 64 → (v ≡ 0 → Still same (at old k) (at new k))
+      → RowsMarked old new same (k + 1) (set marks k v)
+  marks-more {k} {marks} v done few is = record {
+    size = length-set marks k v ∙ done .size;
+    each = front-more (λ a x. x ≡ 0 → Still same (at old a) (at new a)) marks v (omega (arith, done .size)) (done .each) is;
+  }
 
 -- ── One row ──
 
@@ -118,7 +157,7 @@ module _ (from to from′ to′ : List ℕ) (s t limit limit′ : ℕ) where
 
     pub edge-passed :
         {old new : ℕ} {same : Bool} → old ≡ limit - at from (s * 64 + a) → new ≡ limit′ - at from′ (s * 64 + a)
-        → (same ≡ true → SameTests to to′ t limit) → ((same ≡ true) × (old ≡ new)) ⊎ ((old ≡ 0) × (new ≡ 0))
+        → (same ≡ true → SameTests to to′ t limit) → Still same old new
         → EdgeShifted from to from′ to′ s t limit limit′ (a + 1) before now
     edge-passed {old} {new} was is tests (inl both) =
         next-row refl (λ i out. refl)

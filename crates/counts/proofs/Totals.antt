@@ -160,7 +160,7 @@ module _ (source sink delay : List ℕ) where
   first-more u j = ap (λ (k : ℕ). length (keep u (first k))) (add-one j) ∙ kept-more u (first j) (heldEdge source sink delay j)
 
   module _ (tasks : ℕ) (from to : List ℕ) where
-    pub counts-none : {counts : List ℕ} → length counts ≡ 4096 → ((i : ℕ) → at counts i ≡ 0) → CountsOf tasks from to (first 0) counts
+    pub counts-none : {counts : List ℕ} → tasks * 64 ≤ length counts → ((i : ℕ) → at counts i ≡ 0) → CountsOf tasks from to (first 0) counts
     unfolding tabulate keep
     counts-none size zeros = record { size = size; each = λ a b l m. zeros (a * 64 + b) }
 
@@ -171,7 +171,7 @@ module _ (source sink delay : List ℕ) where
     pub counts-more : (j : ℕ) {counts after : List ℕ} → CountsOf tasks from to (first j) counts
         → EdgeShifted from to from to (s j) (t j) 0 (d j + 1) tasks counts after → CountsOf tasks from to (first (j + 1)) after
     counts-more j held shifted = record {
-      size = shifted .size ∙ held .size;
+      size = omega (arith, shifted .size, held .size);
       each = λ a b l m.
           omega (
             arith,
@@ -188,7 +188,7 @@ module _ (source sink delay : List ℕ) where
   module _ (tasks : ℕ) (from to from′ to′ : List ℕ) (stays : Edge → Bool) (n : ℕ) where
     -- the first j edges are counted anew
     pub record Changed (j : ℕ) (counts : List ℕ) : Type 0 where
-      pub size : length counts ≡ 4096
+      pub size : tasks * 64 ≤ length counts
       pub each : (a b : ℕ) → a < tasks → b < 64 →
           at counts (a * 64 + b) + length (keep (subsumesBy from to a b) (first j)) ≡
           length (keep (subsumesBy from to a b) (first n)) + length (keep (subsumesBy from′ to′ a b) (keep stays (first j)))
@@ -246,7 +246,7 @@ module _ (source sink delay : List ℕ) where
           → EdgeShifted from to from′ to′ (s j) (t j) (d j + 1) (counted (stays (edge (s j) (t j) (d j))) (d j + 1)) tasks counts after
           → Changed (j + 1) after
       unfolding tabulate heldEdge at
-      changed-more {after} shifted = record { size = shifted .size ∙ held .size; each = next }
+      changed-more {after} shifted = record { size = omega (arith, shifted .size, held .size); each = next }
         where
           twice : (a b : ℕ) →
               length (keep (subsumesBy from′ to′ a b) (keep stays (first (j + 1)))) ≡
@@ -284,7 +284,7 @@ module _ (source sink delay : List ℕ) where
           → CountsOf tasks from′ to′ (withPair (keep stays (first n)) p q) after
       unfolding withPair pairEdge
       pair-counted p q shifted = record {
-        size = shifted .size ∙ held .size;
+        size = omega (arith, shifted .size, held .size);
         each = λ a b l m.
             omega (
               arith,

@@ -1,9 +1,9 @@
 -- Only for contracts inside: how many edges each pair of tasks subsumes, by delays in rows of 64 numbers, and how these counts change.
 use mathlib.Core.Path.{_≡_}
 use mathlib.Core.Logic.{_⊎_}
-use mathlib.Core.Bool.{Bool}
+use mathlib.Core.Bool.{Bool, true}
 use mathlib.Core.List.{List}
-use Prim.Native.Nat.{ℕ, _+_, _*_, _≤_, _<_}
+use Prim.Native.Nat.{ℕ, _+_, _-_, _*_, _≤_, _<_}
 use lib.Dec.{leb}
 use lib.ListN.{length}
 use Rattle.model.specs.Lists.{counted, keep}
@@ -20,7 +20,7 @@ share from to s t limit a b = counted (leb (at from (s * 64 + a) + at to (t * 64
 
 -- the counts of all pairs
 pub record CountsOf (tasks : ℕ) (from to : List ℕ) (es : List Edge) (counts : List ℕ) : Type 0 where
-  pub size : length counts ≡ 4096
+  pub size : tasks * 64 ≤ length counts
   pub each : (a b : ℕ) → a < tasks → b < 64 → at counts (a * 64 + b) ≡ length (keep (subsumesBy from to a b) es)
 
 -- Rows only fell, and each number of row x that fell is at least number x of `fell`.
@@ -36,6 +36,20 @@ SameTests to to′ t limit = (b l : ℕ) → b < 64 → l ≤ limit → leb (at 
 abbrev pub Covered : List ℕ → List ℕ → ℕ → ℕ → ℕ → ℕ → List ℕ → Type 0
 Covered from to s t limit tasks counts =
     (a b : ℕ) → a < tasks → b < 64 → (share from to s t limit a b ≤ at counts (a * 64 + b)) × (at counts (a * 64 + b) ≤ 256)
+
+-- A row of counts stays: as much is left for it as before and the other delays pass the same tests, or nothing is left before and after.
+abbrev pub Still : Bool → ℕ → ℕ → Type 0
+Still same old new = ((same ≡ true) × (old ≡ new)) ⊎ ((old ≡ 0) × (new ≡ 0))
+
+-- The first `many` numbers are what the delays from a start on leave of a limit.
+pub record LeftRow (delays : List ℕ) (start limit many : ℕ) (left : List ℕ) : Type 0 where
+  pub size : length left ≡ 64
+  pub each : (a : ℕ) → a < many → at left a ≡ limit - at delays (start + a)
+
+-- Of the first `many` rows each that is marked by 0 stays.
+pub record RowsMarked (old new : List ℕ) (same : Bool) (many : ℕ) (marks : List ℕ) : Type 0 where
+  pub size : length marks ≡ 64
+  pub each : (a : ℕ) → a < many → at marks a ≡ 0 → Still same (at old a) (at new a)
 
 -- The first `many` counts of a row lost what numbers below `old` added, and have what numbers below `new` add; the others are as before.
 pub record RowShifted (was is : List ℕ) (start old new place many : ℕ) (before after : List ℕ) : Type 0 where

@@ -12,7 +12,7 @@ ghost use Rattle.model.specs.Tasks.{Ends};
 ghost use Rattle.model.specs.Plan.{withPair};
 ghost use Rattle.records.specs.Columns.{at, edgesOf};
 ghost use Rattle.delays.specs.Delays.{edge};
-ghost use Rattle.counts.specs.Counts.{subsumesBy, share, RowsFell, RowShifted, EdgeShifted, Covered, SameTests, CountsOf};
+ghost use Rattle.counts.specs.Counts.{subsumesBy, share, Still, LeftRow, RowsMarked, RowsFell, RowShifted, EdgeShifted, Covered, SameTests, CountsOf};
 
 // Places of a row, for as many tasks as there can be.
 const WIDTH: usize = 64;
@@ -37,17 +37,24 @@ fn left_of(limit: u16, delay: u16) -> u16
     0
 }
 
-// Whether a row of counts has to be looked at: not if nothing is left before and after, nor if as much is left and the other delays pass the same tests.
-fn moves(old: u16, new: u16, same: bool) -> bool
-    ensures { λ r. ⌜ (r ≡ false → ((same ≡ true) × (old ≡ new)) ⊎ ((old ≡ 0) × (new ≡ 0))) ⌝ }
+// 1 if a row of counts has to be looked at, else 0: not if nothing is left before and after, nor if as much is left and the other delays pass the same
+// tests.
+fn moves(old: u16, new: u16, same: bool) -> u16
+    ensures { λ r. ⌜ (r ≡ 0 → Still same old new) ⌝ }
 {
     if same {
-        return old != new;
+        if old == new {
+            return 0;
+        }
+        return 1;
     }
     if old != 0 {
-        return true;
+        return 1;
     }
-    new != 0
+    if new != 0 {
+        return 1;
+    }
+    0
 }
 
 // Whether the pair (a, b) subsumes an edge.
@@ -60,7 +67,7 @@ pub fn is_subsumed<'a>(
     sink: u8,
     delay: u8,
 ) -> bool
-    requires { ⌜ (length (now from) ≡ 4096) × (length (now to) ≡ 4096) × (a < 64) × (b < 64) × (source < 64) × (sink < 64) ⌝ }
+    requires { ⌜ (a < 64) × (b < 64) × (source * 64 + a < length (now from)) × (sink * 64 + b < length (now to)) ⌝ }
     ensures { λ r. ⌜ r ≡ subsumesBy (now (from .entry)) (now (to .entry)) a b (edge source sink delay) ⌝ }
 {
     let before = from[source as usize * WIDTH + a] as u32;
@@ -79,7 +86,7 @@ fn shift_row<'a>(
     place: usize,
     counts: &mut [u16],
 )
-    requires { ⌜ (start + 64 ≤ length (now was)) × (start + 64 ≤ length (now is)) × (place + 64 ≤ length (now counts)) × (length (now counts) ≡ 4096) × (length (now was) ≡ 4096) × (length (now is) ≡ 4096) ⌝ }
+    requires { ⌜ (start + 64 ≤ length (now was)) × (start + 64 ≤ length (now is)) × (place + 64 ≤ length (now counts)) × (start ≤ 4096) × (place ≤ 4096) ⌝ }
     requires { ⌜ ((b : ℕ) → b < 64 → (counted (leb (at (now was) (start + b) + 1) old) 1 ≤ at (now counts) (place + b)) × (at (now counts) (place + b) ≤ 256)) ⌝ }
     ensures { λ _. ⌜ RowShifted (now (was .entry)) (now (is .entry)) start old new place 64 (now (counts .entry)) (now (counts .exit)) ⌝ }
 {
@@ -88,6 +95,30 @@ fn shift_row<'a>(
         counts[place + b] = counts[place + b] + below(is[start + b], new)
             - below(was[start + b], old);
         b += 1;
+    }
+}
+
+// What each delay of a row leaves of a limit.
+fn left_row(delays: &[u16], start: usize, limit: u16, left: &mut [u16])
+    requires { ⌜ (start + 64 ≤ length (now delays)) × (start ≤ 4096) × (length (now left) ≡ 64) ⌝ }
+    ensures { λ _. ⌜ LeftRow (now (delays .entry)) start limit 64 (now (left .exit)) ⌝ }
+{
+    let mut a = 0;
+    while a < WIDTH {
+        left[a] = left_of(limit, delays[start + a]);
+        a += 1;
+    }
+}
+
+// Marks by 1 each row of counts that has to be looked at, by what is left for it before and after.
+fn mark_rows<'a>(old: &'a [u16], new: &'a [u16], same: bool, marks: &mut [u16])
+    requires { ⌜ (length (now old) ≡ 64) × (length (now new) ≡ 64) × (length (now marks) ≡ 64) ⌝ }
+    ensures { λ _. ⌜ RowsMarked (now (old .entry)) (now (new .entry)) same 64 (now (marks .exit)) ⌝ }
+{
+    let mut a = 0;
+    while a < WIDTH {
+        marks[a] = moves(old[a], new[a], same);
+        a += 1;
     }
 }
 
@@ -106,18 +137,60 @@ fn shift_edge<'a>(
     tasks: usize,
     counts: &mut [u16],
 )
-    requires { ⌜ (length (now from) ≡ 4096) × (length (now to) ≡ 4096) × (length (now «next_from») ≡ 4096) × (length (now «next_to») ≡ 4096) ⌝ }
-    requires { ⌜ (tasks ≤ 64) × (source < 64) × (sink < 64) × (length (now counts) ≡ 4096) ⌝ }
+    requires { ⌜ (tasks * 64 ≤ length (now from)) × (tasks * 64 ≤ length (now to)) × (tasks * 64 ≤ length (now «next_from»)) × (tasks * 64 ≤ length (now «next_to»)) ⌝ }
+    requires { ⌜ (tasks ≤ 64) × (source < tasks) × (sink < tasks) × (tasks * 64 ≤ length (now counts)) ⌝ }
     requires { ⌜ (same ≡ true → SameTests (now to) (now «next_to») sink limit) ⌝ }
     requires { ⌜ Covered (now from) (now to) source sink limit tasks (now counts) ⌝ }
     ensures { λ _. ⌜ EdgeShifted (now (from .entry)) (now (to .entry)) (now («next_from» .entry)) (now («next_to» .entry)) source sink limit «next_limit» tasks (now (counts .entry)) (now (counts .exit)) ⌝ }
 {
+    let mut old: [u16; 64] = [0; 64];
+    let mut new: [u16; 64] = [0; 64];
+    let mut marks: [u16; 64] = [0; 64];
+    left_row(from, source * WIDTH, limit, &mut old);
+    left_row(next_from, source * WIDTH, next_limit, &mut new);
+    mark_rows(&old, &new, same, &mut marks);
     let mut a = 0;
     while a < tasks {
-        let old = left_of(limit, from[source * WIDTH + a]);
-        let new = left_of(next_limit, next_from[source * WIDTH + a]);
-        if moves(old, new, same) {
-            shift_row(to, next_to, sink * WIDTH, old, new, a * WIDTH, counts);
+        if marks[a] != 0 {
+            shift_row(to, next_to, sink * WIDTH, old[a], new[a], a * WIDTH, counts);
+        }
+        a += 1;
+    }
+}
+
+// Counts an edge for the pairs out of one task: a number of the row of delays counts if it is below `left`.
+fn add_row(delays: &[u16], start: usize, left: u16, place: usize, counts: &mut [u16])
+    requires { ⌜ (start + 64 ≤ length (now delays)) × (place + 64 ≤ length (now counts)) × (start ≤ 4096) × (place ≤ 4096) ⌝ }
+    requires { ⌜ ((b : ℕ) → b < 64 → at (now counts) (place + b) ≤ 256) ⌝ }
+    ensures { λ _. ⌜ RowShifted (now (delays .entry)) (now (delays .entry)) start 0 left place 64 (now (counts .entry)) (now (counts .exit)) ⌝ }
+{
+    let mut b = 0;
+    while b < WIDTH {
+        counts[place + b] = counts[place + b] + below(delays[start + b], left);
+        b += 1;
+    }
+}
+
+// Counts an edge that was not counted yet, by its limit.
+fn count_edge<'a>(
+    from: &'a [u16],
+    to: &'a [u16],
+    source: usize,
+    sink: usize,
+    limit: u16,
+    tasks: usize,
+    counts: &mut [u16],
+)
+    requires { ⌜ (tasks * 64 ≤ length (now from)) × (tasks * 64 ≤ length (now to)) × (tasks * 64 ≤ length (now counts)) ⌝ }
+    requires { ⌜ (tasks ≤ 64) × (source < tasks) × (sink < tasks) ⌝ }
+    requires { ⌜ Covered (now from) (now to) source sink 0 tasks (now counts) ⌝ }
+    ensures { λ _. ⌜ EdgeShifted (now (from .entry)) (now (to .entry)) (now (from .entry)) (now (to .entry)) source sink 0 limit tasks (now (counts .entry)) (now (counts .exit)) ⌝ }
+{
+    let mut a = 0;
+    while a < tasks {
+        let left = left_of(limit, from[source * WIDTH + a]);
+        if left != 0 {
+            add_row(to, sink * WIDTH, left, a * WIDTH, counts);
         }
         a += 1;
     }
@@ -134,23 +207,19 @@ pub fn count_edges<'a>(
     counts: &mut [u16],
 )
     requires { ⌜ (length (now sink) ≡ length (now source)) × (length (now delay) ≡ length (now source)) × (length (now source) ≤ 256) ⌝ }
-    requires { ⌜ (length (now from) ≡ 4096) × (length (now to) ≡ 4096) × (length (now counts) ≡ 4096) ⌝ }
+    requires { ⌜ (tasks * 64 ≤ length (now from)) × (tasks * 64 ≤ length (now to)) × (tasks * 64 ≤ length (now counts)) ⌝ }
     requires { ⌜ (tasks ≤ 64) × Ends tasks (edgesOf (now source) (now sink) (now delay)) ⌝ }
     requires { ⌜ ((i : ℕ) → at (now counts) i ≡ 0) ⌝ }
     ensures { λ _. ⌜ CountsOf tasks (now (from .entry)) (now (to .entry)) (edgesOf (now (source .entry)) (now (sink .entry)) (now (delay .entry))) (now (counts .exit)) ⌝ }
 {
     let mut j = 0;
     while j < source.len() {
-        shift_edge(
-            from,
-            to,
+        count_edge(
             from,
             to,
             source[j] as usize,
             sink[j] as usize,
-            0,
             delay[j] as u16 + 1,
-            false,
             tasks,
             counts,
         );
@@ -174,10 +243,10 @@ fn shift_one<'a>(
     delay: u8,
     counts: &mut [u16],
 )
-    requires { ⌜ (length (now from) ≡ 4096) × (length (now to) ≡ 4096) × (length (now «next_from») ≡ 4096) × (length (now «next_to») ≡ 4096) ⌝ }
+    requires { ⌜ (tasks * 64 ≤ length (now from)) × (tasks * 64 ≤ length (now to)) × (tasks * 64 ≤ length (now «next_from»)) × (tasks * 64 ≤ length (now «next_to»)) ⌝ }
     requires { ⌜ (length (now «fell_from») ≡ 64) × (length (now «fell_to») ≡ 64) ⌝ }
     requires { ⌜ RowsFell tasks (now from) (now «next_from») (now «fell_from») × RowsFell tasks (now to) (now «next_to») (now «fell_to») ⌝ }
-    requires { ⌜ (tasks ≤ 64) × (a < tasks) × (b < tasks) × (source < tasks) × (sink < tasks) × (length (now counts) ≡ 4096) ⌝ }
+    requires { ⌜ (tasks ≤ 64) × (a < tasks) × (b < tasks) × (source < tasks) × (sink < tasks) × (tasks * 64 ≤ length (now counts)) ⌝ }
     requires { ⌜ Covered (now from) (now to) source sink (delay + 1) tasks (now counts) ⌝ }
     ensures { λ _. ⌜ EdgeShifted (now (from .entry)) (now (to .entry)) (now («next_from» .entry)) (now («next_to» .entry)) source sink (delay + 1) (counted (not (subsumesBy (now (from .entry)) (now (to .entry)) a b (edge source sink delay))) (delay + 1)) tasks (now (counts .entry)) (now (counts .exit)) ⌝ }
 {
@@ -238,7 +307,7 @@ pub fn shift_edges<'a>(
     counts: &mut [u16],
 )
     requires { ⌜ (length (now sink) ≡ length (now source)) × (length (now delay) ≡ length (now source)) × (length (now source) ≤ 256) ⌝ }
-    requires { ⌜ (length (now from) ≡ 4096) × (length (now to) ≡ 4096) × (length (now «next_from») ≡ 4096) × (length (now «next_to») ≡ 4096) ⌝ }
+    requires { ⌜ (tasks * 64 ≤ length (now from)) × (tasks * 64 ≤ length (now to)) × (tasks * 64 ≤ length (now «next_from»)) × (tasks * 64 ≤ length (now «next_to»)) ⌝ }
     requires { ⌜ (length (now «fell_from») ≡ 64) × (length (now «fell_to») ≡ 64) ⌝ }
     requires { ⌜ RowsFell tasks (now from) (now «next_from») (now «fell_from») × RowsFell tasks (now to) (now «next_to») (now «fell_to») ⌝ }
     requires { ⌜ (tasks ≤ 64) × (a < tasks) × (b < tasks) × Ends tasks (edgesOf (now source) (now sink) (now delay)) ⌝ }
@@ -264,17 +333,5 @@ pub fn shift_edges<'a>(
         );
         j += 1;
     }
-    shift_edge(
-        next_from,
-        next_to,
-        next_from,
-        next_to,
-        a,
-        b,
-        0,
-        1,
-        false,
-        tasks,
-        counts,
-    );
+    count_edge(next_from, next_to, a, b, 1, tasks, counts);
 }

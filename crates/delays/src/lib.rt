@@ -7,20 +7,8 @@ ghost use Rattle.model.specs.Tasks.{Edge};
 ghost use Rattle.model.specs.Compute.{present, leastDelay};
 ghost use Rattle.delays.specs.Delays.{delayTable, Fit};
 
-// Room for the least delays between 64 tasks.
-pub struct DelayTable {
-    pub delay: [u16; 4096],
-}
-
 // No path.
 const NONE: u16 = 65535;
-
-// A table to write into.
-pub fn blank_table() -> DelayTable
-    ensures { λ r. ⌜ length (r .delay) ≡ 4096 ⌝ }
-{
-    DelayTable { delay: [0; 4096] }
-}
 
 // Whether a path leads from one task to another, by the table of least delays.
 pub fn has_path(table: &[u16], tasks: usize, from: usize, to: usize) -> bool

@@ -25,10 +25,10 @@ times-snoc time a [] e = refl
 times-snoc time a (f ∷ p) e = let h = times-snoc time (f .sink) p e in omega arith
 
 -- a walk of delay 0 to v whose times add up to x
-Reached : List Edge → (ℕ → ℕ) → ℕ → ℕ → Type 0
+unfoldable pub Reached : List Edge → (ℕ → ℕ) → ℕ → ℕ → Type 0
 Reached es time v x = (a : ℕ) × (p : List Edge) × ZeroWalk es a p v × (timesAlong time a p ≡ x)
 
-extend : {es : List Edge} (time : ℕ → ℕ) {v : ℕ} (x : ℕ) (e : Edge) → e ∈ es → e .sink ≡ v → e .delay ≡ 0 → Reached es time (e .source) x → Reached es time v (x + time v)
+pub extend : {es : List Edge} (time : ℕ → ℕ) {v : ℕ} (x : ℕ) (e : Edge) → e ∈ es → e .sink ≡ v → e .delay ≡ 0 → Reached es time (e .source) x → Reached es time v (x + time v)
 unfolding Reached total
 extend time x e m s z r =
     let sum = r .3 in

@@ -19,6 +19,7 @@ pub mod Theorems
 pub mod Pairs
 pub mod Choices
 pub mod Stages
+pub mod Alike
 pub mod Updates
 pub mod Plans
 pub mod Example

@@ -108,7 +108,7 @@ module _ {es rs : List Edge} (among : Among es rs) where
   on-cycle-among : {e : Edge} → OnCycle es e → OnCycle rs e
   on-cycle-among {e} c = let r = cycle-back c in back-cycle (among e (r .0)) (path-re-base among (r .2))
 
-  held-among : {n : ℕ} → Ends n rs → {xs : List Edge} → AllHeld es xs → AllHeld rs xs
+  pub held-among : {n : ℕ} → Ends n rs → {xs : List Edge} → AllHeld es xs → AllHeld rs xs
   held-among bounds held e m = let r = held-path (held e m) in path-held bounds e (path-re-base among (r .1)) (r .2)
 
   pub latency-among : {time : ℕ → ℕ} {output l m : ℕ} → Latency es time output l → Latency rs time output m → l ≤ m

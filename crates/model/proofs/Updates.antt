@@ -1,32 +1,33 @@
 -- Least delays, 0 from a task to itself, after a pair's edge of delay 0 is added: what they were, or those to the pair's source and from its sink
--- together (000, Figure 10). By walks, which may be empty: one that passes the pair is cut before its first use and after its last. Edges whose orders
--- other edges hold can be left out, so a step of the plan changes the delays just so, and the first stage does not change them.
+-- together (000, Figure 10). By walks, which may be empty: one that passes the pair is cut before its first use and after its last. Edges that order the
+-- same have the same delays, so a step of the plan changes the delays just so, and the first stage does not change them.
 use mathlib.Core.Path.{_≡_, refl, sym, ap, _∙_, subst}
 use mathlib.Core.Logic.{_⊎_, inl, inr}
 use mathlib.Core.Bool.{Bool, true, false}
 use mathlib.Core.List.{List, [], _∷_, _++_, List·Memᴰ·append-cases, List·Memᴰ·eq-of-singleton}
 use mathlib.Core.Option.{Option, none, some, Option·some-injective, Option·none-ne-some}
 use Prim.Native.Nat.{ℕ, _+_, _≤_, _<_}
-use native.Mathlib.Nat.{le-refl, le-antisymm, min-eq-left, min-eq-right}
+use native.Mathlib.Nat.{le-antisymm, min-eq-left, min-eq-right}
 use native.Mathlib.Omega.{arith}
 use lib.Dec.{eqb}
 use Rattle.model.specs.Tasks.{Edge, _∈_, Ends}
 use Rattle.model.specs.Graph.{Graph, count, edges, WellFormedEdges}
-use Rattle.model.specs.Paths.{total, Walk, stop, step, Path, Least, smallest, no-path, OrderHeld, AllHeld}
+use Rattle.model.specs.Paths.{total, Walk, stop, step, Path, Least, smallest, no-path, AllHeld}
 use Rattle.model.specs.Compute.{lesser, plus}
 use Rattle.model.specs.Proposals.{result, AcceptedGraph, AcceptedProposal}
 use Rattle.model.specs.Theorems.{Decides, Within, within, OffCycles}
-use Rattle.model.specs.Plan.{presentEdges, firstStage, pairEdge, withPair, Candidate, ifSame, counting, replaced}
+use Rattle.model.specs.Plan.{presentEdges, firstStage, pairEdge, Candidate, ifSame, counting, replaced}
 use Rattle.model.proofs.Basics.{order}
-use Rattle.model.proofs.Walks.{total-append, walk-from, walk-append, walk-path, path-edge}
+use Rattle.model.proofs.Walks.{total-append, walk-from, walk-append, walk-path}
 use Rattle.model.proofs.Least.{least-delay, within-mono, within-left, within-right, within-plus, below-within, none-within}
-use Rattle.model.proofs.Tests.{held-path, path-held, eqb-decides}
+use Rattle.model.proofs.Tests.{eqb-decides}
 use Rattle.model.proofs.Graphs.{graph-ends}
 use Rattle.model.proofs.Results.{result-ends}
 use Rattle.model.proofs.Accepted.{off-cycles-of}
-use Rattle.model.proofs.Pairs.{added, added-ends, pair-member, added-walk, present-pair, pair-off-cycles, counts-walk}
+use Rattle.model.proofs.Pairs.{added, added-ends, pair-member, added-walk, counts-walk}
 use Rattle.model.proofs.Choices.{counting-is, present-ends}
-use Rattle.model.proofs.Stages.{Among, result-among, first-among, first-formed, first-accepted, replaced-among, next-ends, pair-in, replaced-held}
+use Rattle.model.proofs.Stages.{first-formed, next-ends}
+use Rattle.model.proofs.Alike.{Alike, walk-held, first-alike, replaced-alike}
 
 -- ── Delays, by walks ──
 
@@ -140,25 +141,11 @@ pair-counting n es ends a b la lb x y = within-equal (counting n (added es a b) 
             subst (λ (k : ℕ). Within (counting n (added es a b) x y) k) (parts .4)
             (way-counting ends-added (way-over (counting-way ends x a (parts .2)) (counting-way ends b y (parts .3))))
 
--- ── Edges that hold each other's orders ──
+-- ── Edges that order the same ──
 
--- a walk follows the held orders edge by edge
-walk-held : {es rs : List Edge} → AllHeld rs es → {x y : ℕ} {p : List Edge} → Walk es x p y → (q : List Edge) × Walk rs x q y × (total q ≤ total p)
-unfolding total
-walk-held held (stop q) = ([], stop q, le-refl 0)
-walk-held held (step {e = e} m s w) =
-    let r = held-path (held e m) in
-    let path = r .1 in
-    let sum = path .sum in
-    let below = r .2 in
-    let v = walk-held held w in
-    let rest = v .2 in
-    let parts = total-append (path .first ∷ path .rest) (v .0) in
-    ((path .first ∷ path .rest) ++ v .0, walk-append (walk-from (sym s) (path .walk)) (v .1), omega arith)
-
-pub held-counting : (n : ℕ) (es rs : List Edge) → Ends n es → Ends n rs → AllHeld rs es → AllHeld es rs → (x y : ℕ) → counting n es x y ≡ counting n rs x y
-held-counting n es rs ends ends′ held held′ x y =
-    within-equal (counting n es x y) (counting n rs x y) (along ends ends′ held) (along ends′ ends held′)
+pub alike-counting : (n : ℕ) (es rs : List Edge) → Ends n es → Ends n rs → Alike es rs → (x y : ℕ) → counting n es x y ≡ counting n rs x y
+alike-counting n es rs ends ends′ alike x y =
+    within-equal (counting n es x y) (counting n rs x y) (along ends ends′ (alike .held)) (along ends′ ends (alike .held-back))
   where
     along : {es rs : List Edge} → Ends n es → Ends n rs → AllHeld rs es → (d : ℕ) → counting n es x y ≡ some d → Within (counting n rs x y) d
     along ends ends′ held d q =
@@ -170,10 +157,6 @@ held-counting n es rs ends ends′ held held′ x y =
 
 -- ── The plan ──
 
--- a list holds the orders of its own edges
-among-held : {n : ℕ} {es rs : List Edge} → Ends n rs → Among es rs → AllHeld rs es
-among-held ends among e m = path-held ends e (path-edge (among e m)) (le-refl (e .delay))
-
 pub step-counting : (g : Graph) → AcceptedGraph g → (list : List Edge) → WellFormedEdges (count g) list → AcceptedProposal g list → (a b : ℕ) →
     Candidate g list a b → (x y : ℕ) → x < count g → y < count g →
     counting (count g) (presentEdges g (replaced g list a b)) x y ≡
@@ -181,43 +164,28 @@ pub step-counting : (g : Graph) → AcceptedGraph g → (list : List Edge) → W
     (plus (counting (count g) (presentEdges g list) x a) (counting (count g) (presentEdges g list) b y))
 unfolding presentEdges
 step-counting g graph list formed accepted a b candidate x y lx ly =
-    held-counting (count g) next with-pair ends-next ends-pair held-pair held-next x y ∙
-    ap {B = Option ℕ} (λ (es : List Edge). counting (count g) es x y) (present-pair g list a b) ∙
-    pair-counting (count g) (presentEdges g list) (present-ends g list off) a b (candidate .source-task) (candidate .sink-task) x y
+    alike-counting (count g) (presentEdges g (replaced g list a b)) (added now a b) (next-ends g list off a b candidate) (added-ends ends la lb)
+    (replaced-alike g list off a b candidate) x y ∙ pair-counting (count g) now ends a b la lb x y
   where
     off : OffCycles g list
     off = off-cycles-of g list graph formed (accepted .off-cycles)
 
-    next : List Edge
-    next = presentEdges g (replaced g list a b)
+    now : List Edge
+    now = presentEdges g list
 
-    with-pair : List Edge
-    with-pair = presentEdges g (withPair list a b)
+    ends : Ends (count g) now
+    ends = present-ends g list off
 
-    ends-next : Ends (count g) next
-    ends-next = next-ends g list off a b candidate
+    la : a < count g
+    la = candidate .source-task
 
-    ends-pair : Ends (count g) with-pair
-    ends-pair =
-        present-ends g (withPair list a b) (pair-off-cycles g list off a b (candidate .source-task) (candidate .sink-task) (candidate .no-path-back))
-
-    -- the pair is taken, and what it subsumes has its order held
-    held-next : AllHeld next with-pair
-    held-next e m = go (List·Memᴰ·append-cases (presentEdges g list) (subst (λ (es : List Edge). e ∈ es) (present-pair g list a b) m))
-      where
-        go : e ∈ presentEdges g list ⊎ e ∈ (pairEdge a b ∷ []) → OrderHeld next e
-        go (inl k) = replaced-held g list off a b candidate e k
-        go (inr k) =
-            among-held ends-next (λ f h. subst (λ (y : Edge). y ∈ next) (sym (List·Memᴰ·eq-of-singleton h)) (pair-in g list off a b candidate)) e k
-
-    held-pair : AllHeld with-pair next
-    held-pair = among-held ends-pair (result-among g (off .sync-ends) (replaced-among g list off a b candidate))
+    lb : b < count g
+    lb = candidate .sink-task
 
 pub first-counting : (g : Graph) → AcceptedGraph g → (x y : ℕ) →
     counting (count g) (presentEdges g (firstStage g)) x y ≡ counting (count g) (edges g) x y
 unfolding presentEdges
-first-counting g graph x y =
-    held-counting (count g) (edges (result g (firstStage g))) (edges g) ends ends′ (among-held ends′ (first-among g graph)) (first-accepted g graph .orders) x y
+first-counting g graph x y = alike-counting (count g) (edges (result g (firstStage g))) (edges g) ends ends′ (first-alike g graph) x y
   where
     ends : Ends (count g) (edges (result g (firstStage g)))
     ends = result-ends g (graph .formed .syncs-formed .ends) (firstStage g) (first-formed g graph .ends)

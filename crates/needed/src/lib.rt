@@ -63,7 +63,7 @@ fn keep_needed<'a, 'b>(
 // of the list, row by row.
 pub fn first_stage(graph: GraphReading, table: &mut [u16]) -> StageEdges
     requires { ⌜ ((g : Graph) × Scheduled graph g) ⌝ }
-    requires { ⌜ length (now table) ≡ 4096 ⌝ }
+    requires { ⌜ graph .tasks * graph .tasks ≤ length (now table) ⌝ }
     ensures stage { λ r. ⌜ ((g : Graph) → Scheduled graph g → HeldStage r (firstStage g)) ⌝ }
     ensures table { λ _. ⌜ ((g : Graph) → Scheduled graph g → now (table .exit) ≡ delayTable (count g) (edges g) ++ drop (count g * count g) (now (table .entry))) ⌝ }
 {

@@ -18,10 +18,10 @@ pub struct Order {
     pub sink: [u8; 576],
 }
 
-// Ends of up to 576 edges.
-struct EdgeEnds {
-    source: [u8; 576],
-    sink: [u8; 576],
+// Whether an order was found, and how many edges are listed.
+pub struct OrderFound {
+    pub found: bool,
+    pub count: u32,
 }
 
 // What is kept for each edge and each task while the edges are listed.
@@ -43,16 +43,6 @@ struct Progress {
     queued: usize,
     laid: usize,
     sound: bool,
-}
-
-// Lists to write into.
-fn blank_ends() -> EdgeEnds
-    ensures { λ r. ⌜ (length (r .source) ≡ 576) × (length (r .sink) ≡ 576) ⌝ }
-{
-    EdgeEnds {
-        source: [0; 576],
-        sink: [0; 576],
-    }
 }
 
 // No edge chained, counted or listed, and no task passed.
@@ -315,27 +305,30 @@ fn all_listed(listed: &[u8]) -> bool
     !missing
 }
 
-// An order of the edges of delay 0. It is found if there is no cycle of them, and there are no more edges than a result has.
-pub fn zero_order<'a>(source: &'a [u8], sink: &'a [u8], delay: &'a [u8], tasks: usize) -> Order
+// Lists the ends of the edges of delay 0 in an order. It is found if there is no cycle of them, and there are no more edges than a result has.
+pub fn list_in_order<'a, 'b>(
+    source: &'a [u8],
+    sink: &'a [u8],
+    delay: &'a [u8],
+    tasks: usize,
+    to_source: &'b mut [u8],
+    to_sink: &'b mut [u8],
+) -> OrderFound
     requires { ⌜ (length (now sink) ≡ length (now source)) × (length (now delay) ≡ length (now source)) ⌝ }
     requires { ⌜ tasks ≤ 64 ⌝ }
     requires { ⌜ Ends tasks (edgesOf (now source) (now sink) (now delay)) ⌝ }
-    ensures few { λ r. ⌜ (r .count ≤ 576) × (length (r .source) ≡ 576) × (length (r .sink) ≡ 576) ⌝ }
-    ensures order { λ r. ⌜ (r .found ≡ true → InOrder (edgesOf (now (source .entry)) (now (sink .entry)) (now (delay .entry))) (r .source) (r .sink) (r .count)) ⌝ }
+    requires { ⌜ (length (now «to_source») ≡ 576) × (length (now «to_sink») ≡ 576) ⌝ }
+    ensures few { λ r. ⌜ (r .count ≤ 576) × (length (now («to_source» .exit)) ≡ 576) × (length (now («to_sink» .exit)) ≡ 576) ⌝ }
+    ensures order { λ r. ⌜ (r .found ≡ true → InOrder (edgesOf (now (source .entry)) (now (sink .entry)) (now (delay .entry))) (now («to_source» .exit)) (now («to_sink» .exit)) (r .count)) ⌝ }
 {
-    let zero = blank_ends();
-    let mut zero_source = zero.source;
-    let mut zero_sink = zero.sink;
-    let mut to_source = zero.source;
-    let mut to_sink = zero.sink;
     if 576 < source.len() {
-        return Order {
+        return OrderFound {
             found: false,
             count: 0,
-            source: to_source,
-            sink: to_sink,
         };
     }
+    let mut zero_source: [u8; 576] = [0; 576];
+    let mut zero_sink: [u8; 576] = [0; 576];
     let count = zero_edges(source, sink, delay, &mut zero_source, &mut zero_sink);
     let work = blank_work();
     let mut next = work.next;
@@ -361,14 +354,31 @@ pub fn zero_order<'a>(source: &'a [u8], sink: &'a [u8], delay: &'a [u8], tasks: 
         &mut waiting,
         &mut queue,
         &mut listed,
-        &mut to_source,
-        &mut to_sink,
+        to_source,
+        to_sink,
         queued,
     );
     let whole = all_listed(&listed[0..count]);
-    Order {
+    OrderFound {
         found: whole,
         count: progress.laid as u32,
+    }
+}
+
+// The order in lists of its own.
+pub fn zero_order<'a>(source: &'a [u8], sink: &'a [u8], delay: &'a [u8], tasks: usize) -> Order
+    requires { ⌜ (length (now sink) ≡ length (now source)) × (length (now delay) ≡ length (now source)) ⌝ }
+    requires { ⌜ tasks ≤ 64 ⌝ }
+    requires { ⌜ Ends tasks (edgesOf (now source) (now sink) (now delay)) ⌝ }
+    ensures few { λ r. ⌜ (r .count ≤ 576) × (length (r .source) ≡ 576) × (length (r .sink) ≡ 576) ⌝ }
+    ensures order { λ r. ⌜ (r .found ≡ true → InOrder (edgesOf (now (source .entry)) (now (sink .entry)) (now (delay .entry))) (r .source) (r .sink) (r .count)) ⌝ }
+{
+    let mut to_source: [u8; 576] = [0; 576];
+    let mut to_sink: [u8; 576] = [0; 576];
+    let order = list_in_order(source, sink, delay, tasks, &mut to_source, &mut to_sink);
+    Order {
+        found: order.found,
+        count: order.count,
         source: to_source,
         sink: to_sink,
     }

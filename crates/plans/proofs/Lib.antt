@@ -3,3 +3,4 @@ pub mod Worths
 pub mod Stepping
 pub mod FewEdges
 pub mod Planning
+pub mod Beginning

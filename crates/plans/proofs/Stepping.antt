@@ -1,98 +1,172 @@
--- One step from a stage: the best pair by its lists is the step's, and the lists with the pair added are those of the next stage.
+-- One step from a stage: the best pair by its lists is the step's, and the lists with the pair added are those of the next stage. Which edges the pair subsumes
+-- is told by the delays with it as well as by those before: the ones to its source and from its sink do not fall.
 use mathlib.Core.Path.{_≡_, sym, ap, _∙_, subst}
-use mathlib.Core.Bool.{true, false, not}
+use mathlib.Core.Bool.{Bool, not}
 use mathlib.Core.List.{List}
-use mathlib.Core.Option.{Option, some}
-use Prim.Native.Nat.{ℕ, _≤_, _<_}
+use mathlib.Core.Option.{none, some}
+use Prim.Native.Nat.{ℕ, _+_, _-_, _*_, _≤_, _<_}
 use native.Mathlib.Nat.{sub-zero}
 use native.Mathlib.Omega.{arith}
+use lib.Dec.{leb}
 use lib.ListN.{length, take, length-take}
 use Rattle.model.specs.Lists.{keep}
-use Rattle.model.specs.Tasks.{Edge}
-use Rattle.model.specs.Graph.{Graph, count, timeOf}
-use Rattle.model.specs.Compute.{latency}
-use Rattle.model.specs.Plan.{presentEdges, withPair, replaced, step}
-use Rattle.readings.specs.declared.GraphReading.{GraphReading}
-use Rattle.records.proofs.Fill.{length-tabulate}
-use Rattle.schedule.proofs.Fronts.{front}
-use Rattle.latest.specs.Latest.{earliestEnds}
+use Rattle.model.specs.Tasks.{Edge, _∈_, Ends}
+use Rattle.model.specs.Graph.{Graph, count}
+use Rattle.model.specs.Plan.{withPair, Candidate, replaced, step}
+use Rattle.records.specs.Columns.{edgesOf, at}
 use Rattle.counts.specs.Counts.{subsumesBy, CountsOf}
 use Rattle.updates.specs.Updates.{PairAdded}
+use Rattle.updates.proofs.Pairs.{keep-equal}
 use Rattle.candidates.specs.Candidates.{worthIn, BestPair}
-use Rattle.stages.specs.declared.StageEdges.{StageEdges}
-use Rattle.stages.specs.Stages.{HeldStage}
+use Rattle.results.specs.Fronts.{HeldFront}
+use Rattle.results.proofs.Fronts.{held-edges}
 use Rattle.prepared.specs.Ready.{Ready}
-use Rattle.present.specs.Present.{Staged, Timed}
-use Rattle.present.proofs.Staging.{frontStage, stage-held, tasks-are}
-use Rattle.plans.specs.Plans.{isTaken, orPresent, StepAnswered}
-use Rattle.plans.proofs.Worths.{replaced-by, best-taken, best-none, best-room, ready-next}
+use Rattle.present.proofs.Ordering.{timed-sizes}
+use Rattle.plans.specs.Plans.{Here}
+use Rattle.plans.proofs.Worths.{replaced-by, best-taken, best-none, best-room, best-candidate, ready-next}
 
-module _ {graph : GraphReading} {stage : StageEdges} {g : Graph} {list : List Edge} (given : Staged graph stage g list) where
-  -- there are ends and latest starts of all tasks
-  pub timed-room : (end latest : List ℕ) → Timed g list (take (graph .tasks) end) (take (graph .tasks) latest) →
-      (graph .tasks ≤ length end) × (graph .tasks ≤ length latest)
-  unfolding earliestEnds
-  timed-room end latest timed =
-      let ends = ap length (timed .end-is) ∙ length-tabulate (count g) (latency (count g) (presentEdges g list) (timeOf g)) in
-      (omega (arith, ends, length-take (graph .tasks) end, tasks-are given), omega (arith, timed .latest-is .size, length-take (graph .tasks) latest, tasks-are given))
+module _
+    {g : Graph} {list : List Edge} {tasks many : ℕ} {source sink delay from to counts end latest : List ℕ}
+    (here : Here g list tasks many source sink delay from to counts end latest)
+  where
+    few : tasks ≤ 64
+    few = omega (arith, here .as-many, here .staged .graph .formed .at-most-64)
 
-  -- the ends and latest starts as they are lent
-  pub timed-front : (end latest : List ℕ) → Timed g list (take (graph .tasks) end) (take (graph .tasks) latest) →
-      Timed g list (front (graph .tasks) end) (front (graph .tasks) latest)
-  timed-front end latest timed =
-      subst (λ (n : ℕ). Timed g list (take n end) (take n latest)) (sym (sub-zero (graph .tasks))) timed
+    pub rows-long : (tasks ≤ 64) × (tasks * 64 ≤ length counts) × (tasks * 64 ≤ length to) × (length end ≡ tasks) × (length latest ≡ tasks)
+    rows-long =
+        let sizes = timed-sizes (here .timed) in (
+          few,
+          omega (arith, here .ready .counts-are .size, here .as-many),
+          omega (arith, here .ready .to-size, here .as-many),
+          omega (arith, sizes .0, here .as-many),
+          omega (arith, sizes .1, here .as-many),
+        )
 
-  module _ {from to counts : List ℕ} (ready : Ready g list from to counts) where
-    -- the edges that the pair (a, b) does not subsume
-    abbrev pub others : ℕ → ℕ → List Edge
-    others a b = keep (λ e. not (subsumesBy from to a b e)) list
+    pub delays-long : (tasks * 64 ≤ length from) × (tasks * 64 ≤ length to)
+    delays-long = (omega (arith, here .ready .from-size, here .as-many), omega (arith, here .ready .to-size, here .as-many))
 
-    pub counts-front : CountsOf (graph .tasks) from to (frontStage stage) counts
-    counts-front =
-        subst (λ (es : List Edge). CountsOf (graph .tasks) from to es counts) (sym (stage-held (given .held)))
-        (subst (λ (n : ℕ). CountsOf n from to list counts) (sym (tasks-are given)) (ready .counts-are))
+    -- ── The stage, as it is lent ──
 
-    module _ {end latest : List ℕ} (timed : Timed g list end latest) {m a b : ℕ} (best : BestPair (graph .tasks) (worthIn counts to end latest) m a b) where
+    abbrev pub lent : List Edge
+    lent = edgesOf (take (many - 0) source) (take (many - 0) sink) (take (many - 0) delay)
+
+    lent-is : lent ≡ list
+    lent-is = (λ i. edgesOf (take (sub-zero many i) source) (take (sub-zero many i) sink) (take (sub-zero many i) delay)) ∙ held-edges (here .held)
+
+    pub lent-within : (many ≤ length source) × (many ≤ length sink) × (many ≤ length delay)
+    lent-within =
+        let front = here .held in
+        let most : many ≤ 256 = omega (arith, front .sources .as-many, front .sources .column .as-many, length-take many source, front .sources .room) in
+        (omega (arith, most, front .sources .room), omega (arith, most, front .sinks .room), omega (arith, most, front .delays .room))
+
+    pub lent-lists :
+        (length (take (many - 0) sink) ≡ length (take (many - 0) source)) × (length (take (many - 0) delay) ≡ length (take (many - 0) source)) ×
+        (length (take (many - 0) source) ≤ 256)
+    lent-lists =
+        let front = here .held in (
+          omega (arith, length-take (many - 0) sink, length-take (many - 0) source, front .sinks .room, front .sources .room),
+          omega (arith, length-take (many - 0) delay, length-take (many - 0) source, front .delays .room, front .sources .room),
+          omega (arith, length-take (many - 0) source, front .sources .room),
+        )
+
+    list-ends : Ends tasks list
+    list-ends = subst (λ (n : ℕ). Ends n list) (sym (here .as-many)) (here .staged .formed .ends)
+
+    pub lent-ends : Ends tasks lent
+    lent-ends = subst (λ (es : List Edge). Ends tasks es) (sym lent-is) list-ends
+
+    pub lent-counts : CountsOf tasks from to lent counts
+    lent-counts =
+        subst (λ (es : List Edge). CountsOf tasks from to es counts) (sym lent-is)
+        (subst (λ (n : ℕ). CountsOf n from to list counts) (sym (here .as-many)) (here .ready .counts-are))
+
+    -- ── The best pair ──
+
+    module _ {m a b : ℕ} (best : BestPair tasks (worthIn counts to end latest) m a b) where
       best-is : BestPair (count g) (worthIn counts to end latest) m a b
-      best-is = subst (λ (n : ℕ). BestPair n (worthIn counts to end latest) m a b) (tasks-are given) best
+      best-is = subst (λ (n : ℕ). BestPair n (worthIn counts to end latest) m a b) (here .as-many) best
 
-      pub others-few : 2 ≤ m → length (others a b) < 256
-      others-few two = best-room g list (given .scheduled .accepted) (given .formed) (given .accepted) ready timed best-is two
+      pub none-left : m < 2 → step g list ≡ none
+      none-left =
+          best-none g list (here .staged .graph) (here .staged .formed) (here .staged .accepted) (here .ready) (here .timed) best-is
 
-      pub answer-none : m < 2 → StepAnswered g list (record { taken = false; stage = stage })
-      unfolding isTaken orPresent
-      answer-none few =
-          let last = best-none g list (given .scheduled .accepted) (given .formed) (given .accepted) ready timed best-is few in
-          record {
-            taken = ap isTaken (sym last);
-            held = subst (λ (o : Option (List Edge)). HeldStage stage (orPresent o list)) (sym last) (given .held);
-          }
+      module _ (two : 2 ≤ m) where
+        pub found : step g list ≡ some (replaced g list a b)
+        found =
+            best-taken g list (here .staged .graph) (here .staged .formed) (here .staged .accepted) (here .ready) (here .timed) best-is two
 
-      found : 2 ≤ m → step g list ≡ some (replaced g list a b)
-      found two = best-taken g list (given .scheduled .accepted) (given .formed) (given .accepted) ready timed best-is two
+        pub candidate : Candidate g list a b
+        candidate =
+            best-candidate g list (here .staged .graph) (here .staged .formed) (here .staged .accepted) (here .ready) (here .timed) best-is two
 
-      pub answer-taken :
-          {next : StageEdges} → 2 ≤ m → HeldStage next (withPair (others a b) a b) → StepAnswered g list (record { taken = true; stage = next })
-      unfolding isTaken orPresent
-      answer-taken {next} two held =
-          let same =
-          replaced-by g list (given .scheduled .accepted) (given .formed) (given .accepted) ready a b (best-is .source-below two) (best-is .sink-below two) in
-          let kept = subst (λ (es : List Edge). HeldStage next es) same held in
-          record {
-            taken = ap isTaken (sym (found two));
-            held = subst (λ (o : Option (List Edge)). HeldStage next (orPresent o list)) (sym (found two)) kept;
-          }
+        module _ {from′ to′ : List ℕ} (added : PairAdded tasks a b from to from′ to′) where
+          test : Edge → Bool
+          test e = not (subsumesBy from to a b e)
 
-      -- the lists with the pair added are those of the next stage
-      pub next-ready :
-          {from′ to′ counts′ : List ℕ} → 2 ≤ m → PairAdded (graph .tasks) a b from to from′ to′ →
-          CountsOf (graph .tasks) from′ to′ (withPair (keep (λ e. not (subsumesBy from to a b e)) (frontStage stage)) a b) counts′ →
-          Ready g (orPresent (step g list) list) from′ to′ counts′
-      unfolding orPresent
-      next-ready {from′} {to′} {counts′} two added many =
-          let among = subst (λ (es : List Edge). CountsOf (graph .tasks) from′ to′ (withPair (keep (λ e. not (subsumesBy from to a b e)) es) a b) counts′)
-          (stage-held (given .held)) many in
-          let counted = subst (λ (n : ℕ). CountsOf n from′ to′ (withPair (others a b) a b) counts′) (tasks-are given) among in
-          let fell = subst (λ (n : ℕ). PairAdded n a b from to from′ to′) (tasks-are given) added in
-          subst (λ (o : Option (List Edge)). Ready g (orPresent o list) from′ to′ counts′) (sym (found two))
-          (ready-next g list (given .scheduled .accepted) (given .formed) (given .accepted) ready timed best-is two fell counted)
+          abbrev pub test′ : Edge → Bool
+          test′ e = not (subsumesBy from′ to′ a b e)
+
+          -- a number and itself with one added: the smaller is the number
+          same-test : (e : Edge) → e ∈ list → test′ e ≡ test e
+          unfolding subsumesBy test
+          same-test e m =
+              let lx = list-ends e m .0 in
+              let ly = list-ends e m .1 in
+              let la = best .source-below two in
+              let lb = best .sink-below two in
+              let lx′ = here .staged .formed .ends e m .0 in
+              let ly′ = here .staged .formed .ends e m .1 in
+              let before : at from′ (e .source * 64 + a) ≡ at from (e .source * 64 + a)
+              = omega (
+                arith,
+                added .from-is (e .source) a lx (omega (arith, la, few)),
+                here .ready .from-is (e .source) a lx′ (best-is .source-below two),
+                here .ready .to-is (e .source) a lx′ (best-is .source-below two),
+              ) in
+              let after : at to′ (e .sink * 64 + b) ≡ at to (e .sink * 64 + b)
+              = omega (
+                arith,
+                added .to-is (e .sink) b ly (omega (arith, lb, few)),
+                here .ready .to-is b (e .sink) (best-is .sink-below two) ly′,
+                here .ready .from-is b (e .sink) (best-is .sink-below two) ly′,
+              ) in
+              λ i. not (leb (before i + after i) (e .delay))
+
+          same-left : keep test′ list ≡ keep test list
+          same-left = keep-equal test′ test list same-test
+
+          pub replace-sizes : (tasks ≤ 64) × (tasks * 64 ≤ length from′) × (tasks * 64 ≤ length to′) × (a < tasks) × (b < tasks)
+          replace-sizes = (few, added .from-size, added .to-size, best .source-below two, best .sink-below two)
+
+          pub replace-given : (list′ : List Edge) × HeldFront 256 many source sink delay list′ × Ends tasks list′ × (length (keep test′ list′) < 256)
+          unfolding test
+          replace-given = (
+            list,
+            here .held,
+            list-ends,
+            subst (λ (es : List Edge). length es < 256) (sym same-left)
+                (best-room g list (here .staged .graph) (here .staged .formed) (here .staged .accepted) (here .ready) (here .timed) best-is two),
+          )
+
+          is-replaced : withPair (keep test list) a b ≡ replaced g list a b
+          unfolding test
+          is-replaced =
+              replaced-by g list (here .staged .graph) (here .staged .formed) (here .staged .accepted) (here .ready) a b (best-is .source-below two)
+              (best-is .sink-below two)
+
+          pub next-held :
+              {n : ℕ} {source′ sink′ delay′ : List ℕ} → HeldFront 256 n source′ sink′ delay′ (withPair (keep test′ list) a b) →
+              HeldFront 256 n source′ sink′ delay′ (replaced g list a b)
+          next-held {n} {source′} {sink′} {delay′} =
+              subst (λ (es : List Edge). HeldFront 256 n source′ sink′ delay′ es) (ap (λ (es : List Edge). withPair es a b) same-left ∙ is-replaced)
+
+          pub next-ready :
+              {counts′ : List ℕ} → CountsOf tasks from′ to′ (withPair (keep (λ e. not (subsumesBy from to a b e)) lent) a b) counts′ →
+              Ready g (replaced g list a b) from′ to′ counts′
+          next-ready {counts′} many-next =
+              let among =
+              subst (λ (es : List Edge). CountsOf tasks from′ to′ (withPair (keep (λ e. not (subsumesBy from to a b e)) es) a b) counts′) lent-is many-next in
+              let counted =
+              subst (λ (n : ℕ). CountsOf n from′ to′ (withPair (keep (λ e. not (subsumesBy from to a b e)) list) a b) counts′) (here .as-many) among in
+              ready-next g list (here .staged .graph) (here .staged .formed) (here .staged .accepted) (here .ready) (here .timed) best-is two
+              (subst (λ (n : ℕ). PairAdded n a b from to from′ to′) (here .as-many) added) counted

@@ -18,7 +18,7 @@ use Rattle.model.specs.Paths.{Path, Least, smallest, no-path, stop, ZeroWalk, t
 use Rattle.model.specs.Compute.{atMost, lesser, plus, latency, latencyOf}
 use Rattle.model.specs.Proposals.{result, AcceptedGraph, AcceptedProposal}
 use Rattle.model.specs.Theorems.{Decides, OffCycles}
-use Rattle.model.specs.Plan.{presentEdges, withPair, Candidate, ifSame, counting, subsumes, gain, replaced, worth, step}
+use Rattle.model.specs.Plan.{presentEdges, withPair, Candidate, ifSame, counting, subsumes, gain, isCandidate, replaced, worth, step}
 use Rattle.model.proofs.Basics.{cases, is-true, is-false, and-left, and-right, and-both, order}
 use Rattle.model.proofs.Tests.{decides-iff, decides-true, decides-yes, decides-no, eqb-decides}
 use Rattle.model.proofs.Least.{least-delay}
@@ -36,6 +36,7 @@ use Rattle.starts.proofs.Limits.{turn-fits}
 use Rattle.latest.specs.Latest.{earliestEnds, InTimeFrom, LatestStarts}
 use Rattle.counts.specs.Counts.{subsumesBy, CountsOf}
 use Rattle.updates.specs.Updates.{PairAdded}
+use Rattle.updates.proofs.Pairs.{keep-equal}
 use Rattle.candidates.specs.Candidates.{worthIn, BestPair}
 use Rattle.verdicts.proofs.Tested.{result-fit}
 use Rattle.prepared.specs.Ready.{cut, Ready}
@@ -50,12 +51,6 @@ decides-equal {b} {c} x y = go (cases b)
     go : T b ⊎ T (not b) → b ≡ c
     go (inl t) = is-true b t ∙ sym (decides-yes y (x .if-true t))
     go (inr t) = is-false b t ∙ sym (decides-no y (x .if-false t))
-
--- tests that say the same of each element keep the same
-keep-equal : (t s : Edge → Bool) (xs : List Edge) → ((e : Edge) → e ∈ xs → t e ≡ s e) → keep t xs ≡ keep s xs
-unfolding keep
-keep-equal t s [] same = refl
-keep-equal t s (x ∷ xs) same = λ i. put (same x (here refl) i) x (keep-equal t s xs (λ e m. same e (there m)) i)
 
 counted-most : (b : Bool) (w : ℕ) → counted b w ≤ w
 unfolding counted
@@ -136,6 +131,37 @@ module _ (g : Graph) (list : List Edge) (graph : AcceptedGraph g) (formed : Well
         ap (λ (es : List Edge). withPair es a b)
         (keep-equal (λ e. not (subsumesBy from to a b e)) (λ e. not (subsumes (count g) (presentEdges g list) a b e)) list
         (λ e m. ap not (subsumes-by a b la lb e m)))
+
+    -- ── Without a look at times ──
+
+    gain-by : (a b : ℕ) → a < count g → b < count g → at counts (a * 64 + b) ≡ gain g list a b
+    unfolding gain
+    gain-by a b la lb =
+        ready .counts-are .each a b la (omega (arith, lb, graph .formed .at-most-64)) ∙
+        ap length (keep-equal (subsumesBy from to a b) (subsumes (count g) (presentEdges g list) a b) list (subsumes-by a b la lb))
+
+    -- no path leads back along a candidate
+    open-back : (a b : ℕ) → a < count g → b < count g → Candidate g list a b → at to (a * 64 + b) ≡ 32767
+    unfolding counting ifSame cut
+    open-back a b la lb c =
+        ready .to-is b a lb la ∙ go (eqb b a) (eqb-decides b a) (least-delay (count g) (presentEdges g list) (present-fit .ends) b a)
+      where
+        go : (same : Bool) → Decides same (b ≡ a) → {o : Option ℕ} → Least (presentEdges g list) b a o → cut (ifSame same o) ≡ 32767
+        go true same l = absurd (candidate-apart g list c (same .if-true tt))
+        go false same (smallest {d = d} path below) = absurd (c .no-path-back d path)
+        go false same (no-path none-back) = refl
+
+    -- where no pair without a path back subsumes two edges, there is no step
+    pub few-none :
+        ((a b : ℕ) → a < count g → b < 64 → at to (a * 64 + b) ≡ 32767 → at counts (a * 64 + b) < 2) → step g list ≡ none
+    unfolding worth counted
+    few-none few = step-none g list (λ a b la lb. go a b la lb (isCandidate g list a b) (candidate-is g list off a b la lb))
+      where
+        go : (a b : ℕ) → a < count g → b < count g → (t : Bool) → Decides t (Candidate g list a b) → counted t (gain g list a b) < 2
+        go a b la lb true decides =
+            let one = few a b la (omega (arith, lb, graph .formed .at-most-64)) (open-back a b la lb (decides .if-true tt)) in
+            omega (arith, one, gain-by a b la lb)
+        go a b la lb false decides = omega arith
 
   module _ {from to counts end latest : List ℕ} (ready : Ready g list from to counts) (timed : Timed g list end latest) where
     end-at : (a : ℕ) → a < count g → at end a ≡ endOf a
@@ -234,10 +260,7 @@ module _ (g : Graph) (list : List Edge) (graph : AcceptedGraph g) (formed : Well
     unfolding worthIn worth gain
     worth-by a b la lb =
         let same = decides-equal (candidate-by a b la lb) (candidate-is g list off a b la lb) in
-        let kept =
-        keep-equal (subsumesBy from to a b) (subsumes (count g) (presentEdges g list) a b) list (subsumes-by ready a b la lb) in
-        let many = ready .counts-are .each a b la (omega (arith, lb, graph .formed .at-most-64)) ∙ ap length kept in
-        λ i. counted (same i) (many i)
+        λ i. counted (same i) (gain-by ready a b la lb i)
 
     -- ── The pair that is worth most ──
 
@@ -277,7 +300,7 @@ module _ (g : Graph) (list : List Edge) (graph : AcceptedGraph g) (formed : Well
           omega (arith, gained, most, many, parts, formed .few)
 
       -- it is a candidate, since it is worth something
-      best-candidate : 2 ≤ m → Candidate g list a b
+      pub best-candidate : 2 ≤ m → Candidate g list a b
       unfolding worthIn counted
       best-candidate two = go (tested a b) (candidate-by a b (best .source-below two) (best .sink-below two)) (best .worth-is two)
         where

@@ -1,22 +1,38 @@
-// The plan of a graph: its first stage, and steps from stage to stage until no candidate subsumes two edges. Least delays, and how many edges each pair
-// of tasks subsumes, are kept from step to step.
+// The plan of a graph: its first stage, and steps from stage to stage until no candidate subsumes two edges. Least delays, how many edges each pair
+// of tasks subsumes, and the times of the first turn are kept from step to step.
 mod steps;
+mod walking;
 
+ghost use mathlib.Core.Path.{_≡_};
+ghost use Prim.Native.Nat.{ℕ, _*_, _≤_};
+ghost use lib.ListN.{length};
 ghost use Rattle.model.specs.Graph.{Graph};
+ghost use Rattle.model.specs.Compute.{latencyOf};
+ghost use Rattle.records.specs.Columns.{at};
 ghost use Rattle.schedule.specs.Schedule.{Scheduled};
-ghost use Rattle.plans.specs.Plans.{PlanAnswered};
+ghost use Rattle.plans.specs.Plans.{Starts, Followed, PlanAnswered};
+use candidates::has_pair;
 use needed::first_stage;
 use prepared::start;
-use present::kept_edges;
-use present::stage_latency;
+use present::first_times;
 use readings::GraphReading;
 use stages::StageEdges;
 pub use steps::step;
+pub use walking::follow_steps;
 
-// What a step gives: whether a candidate was taken, and the stage after it; without one, the stage as it was.
+// What a step gives: whether a candidate was taken, which one, and how many edges the stage has after it.
 pub struct StepAnswer {
     pub taken: bool,
-    pub stage: StageEdges,
+    pub source: usize,
+    pub sink: usize,
+    pub count: usize,
+}
+
+// Where the steps lead to: how many edges the last stage has, how many steps were taken, and the latency of the graph they lead to.
+pub struct Walked {
+    pub count: usize,
+    pub steps: u32,
+    pub latency: u32,
 }
 
 // A plan: how many steps were taken, the latency of the graph they lead to, and the last stage.
@@ -26,32 +42,222 @@ pub struct FoundPlan {
     pub stage: StageEdges,
 }
 
-// The plan of an accepted graph.
-pub fn planned(graph: GraphReading) -> FoundPlan
-    requires { ⌜ ((g : Graph) × Scheduled graph g) ⌝ }
-    ensures { λ r. ⌜ ((g : Graph) → Scheduled graph g → PlanAnswered g r) ⌝ }
+// The plan of an accepted graph from its first stage on, whose edges the lists hold; then they hold the plan's. The graph comes as its edges, its times, its
+// output, its bound, its latency and its table of least delays; five lists are for delays and counts. Where no pair may subsume two edges there is no step.
+fn plan_from<'a, 'b>(
+    graph_source: &'a [u8],
+    graph_sink: &'a [u8],
+    graph_delay: &'a [u8],
+    time: &'a [u16],
+    output: usize,
+    bound: u32,
+    latency: u32,
+    first: usize,
+    source: &'b mut [u8],
+    sink: &'b mut [u8],
+    delay: &'b mut [u8],
+    table: &'b mut [u16],
+    from: &'b mut [u16],
+    to: &'b mut [u16],
+    counts: &'b mut [u16],
+    old_from: &'b mut [u16],
+    old_to: &'b mut [u16],
+) -> Walked
+    requires { ⌜ (length (now «graph_sink») ≡ length (now «graph_source»)) × (length (now «graph_delay») ≡ length (now «graph_source»)) ⌝ }
+    requires { ⌜ (length (now time) * 64 ≤ length (now from)) × (length (now time) * 64 ≤ length (now to)) × (length (now time) * 64 ≤ length (now counts)) ⌝ }
+    requires { ⌜ (length (now time) * 64 ≤ length (now «old_from»)) × (length (now time) * 64 ≤ length (now «old_to»)) ⌝ }
+    requires { ⌜ ((i : ℕ) → at (now from) i ≡ 0) × ((i : ℕ) → at (now to) i ≡ 0) × ((i : ℕ) → at (now counts) i ≡ 0) ⌝ }
+    requires { ⌜ ((g : Graph) × Starts g (now «graph_source») (now «graph_sink») (now «graph_delay») (now time) output bound latency first (now source) (now sink) (now delay) (now table)) ⌝ }
+    ensures { λ r. ⌜ ((g : Graph) → Starts g (now («graph_source» .entry)) (now («graph_sink» .entry)) (now («graph_delay» .entry)) (now (time .entry)) output bound latency first (now (source .entry)) (now (sink .entry)) (now (delay .entry)) (now (table .entry)) → Followed g r (now (source .exit)) (now (sink .exit)) (now (delay .exit))) ⌝ }
 {
-    let mut table: [u16; 4096] = [0; 4096];
+    let tasks = time.len();
+    start(
+        tasks,
+        &source[0..first],
+        &sink[0..first],
+        &delay[0..first],
+        table,
+        from,
+        to,
+        counts,
+    );
+    if !has_pair(counts, to, tasks) {
+        return Walked {
+            count: first,
+            steps: 0,
+            latency,
+        };
+    }
+    let mut order_source: [u8; 576] = [0; 576];
+    let mut order_sink: [u8; 576] = [0; 576];
+    let mut order_delay: [u8; 576] = [0; 576];
+    let mut end: [u32; 64] = [0; 64];
+    let mut latest: [u32; 64] = [0; 64];
+    first_times(
+        graph_source,
+        graph_sink,
+        graph_delay,
+        time,
+        output,
+        bound,
+        &mut order_source,
+        &mut order_sink,
+        &mut order_delay,
+        &mut end[0..tasks],
+        &mut latest[0..tasks],
+    );
+    follow_steps(
+        time,
+        output,
+        bound,
+        graph_source.len(),
+        first,
+        source,
+        sink,
+        delay,
+        from,
+        to,
+        counts,
+        old_from,
+        old_to,
+        &mut order_source,
+        &mut order_sink,
+        &mut order_delay,
+        &mut end[0..tasks],
+        &mut latest[0..tasks],
+    )
+}
+
+// The same with lists of its own: of few tasks small ones will do, which are sooner cleared.
+fn plan_in_lists<'a, 'b>(
+    graph_source: &'a [u8],
+    graph_sink: &'a [u8],
+    graph_delay: &'a [u8],
+    time: &'a [u16],
+    output: usize,
+    bound: u32,
+    latency: u32,
+    first: usize,
+    source: &'b mut [u8],
+    sink: &'b mut [u8],
+    delay: &'b mut [u8],
+    table: &'b mut [u16],
+) -> Walked
+    requires { ⌜ (length (now «graph_sink») ≡ length (now «graph_source»)) × (length (now «graph_delay») ≡ length (now «graph_source»)) ⌝ }
+    requires { ⌜ ((g : Graph) × Starts g (now «graph_source») (now «graph_sink») (now «graph_delay») (now time) output bound latency first (now source) (now sink) (now delay) (now table)) ⌝ }
+    ensures { λ r. ⌜ ((g : Graph) → Starts g (now («graph_source» .entry)) (now («graph_sink» .entry)) (now («graph_delay» .entry)) (now (time .entry)) output bound latency first (now (source .entry)) (now (sink .entry)) (now (delay .entry)) (now (table .entry)) → Followed g r (now (source .exit)) (now (sink .exit)) (now (delay .exit))) ⌝ }
+{
+    if time.len() <= 16 {
+        let mut from: [u16; 1024] = [0; 1024];
+        let mut to: [u16; 1024] = [0; 1024];
+        let mut counts: [u16; 1024] = [0; 1024];
+        let mut old_from: [u16; 1024] = [0; 1024];
+        let mut old_to: [u16; 1024] = [0; 1024];
+        return plan_from(
+            graph_source,
+            graph_sink,
+            graph_delay,
+            time,
+            output,
+            bound,
+            latency,
+            first,
+            source,
+            sink,
+            delay,
+            table,
+            &mut from,
+            &mut to,
+            &mut counts,
+            &mut old_from,
+            &mut old_to,
+        );
+    }
     let mut from: [u16; 4096] = [0; 4096];
     let mut to: [u16; 4096] = [0; 4096];
     let mut counts: [u16; 4096] = [0; 4096];
-    let kept = kept_edges(graph);
-    let mut stage = first_stage(graph, &mut table);
-    start(graph, stage, &mut table, &mut from, &mut to, &mut counts);
-    let mut steps = 0;
-    let mut going = 2 <= stage.count;
-    while going {
-        let next = step(graph, kept, stage, &mut from, &mut to, &mut counts);
-        going = next.taken;
-        stage = next.stage;
-        if going {
-            steps += 1;
-        }
-    }
-    let latency = stage_latency(graph, kept, stage);
-    FoundPlan {
-        steps,
+    let mut old_from: [u16; 4096] = [0; 4096];
+    let mut old_to: [u16; 4096] = [0; 4096];
+    plan_from(
+        graph_source,
+        graph_sink,
+        graph_delay,
+        time,
+        output,
+        bound,
         latency,
-        stage,
+        first,
+        source,
+        sink,
+        delay,
+        table,
+        &mut from,
+        &mut to,
+        &mut counts,
+        &mut old_from,
+        &mut old_to,
+    )
+}
+
+// The plan of an accepted graph, whose latency is known, with room for a table of least delays. With fewer than two edges there is no step, and the latency
+// stays.
+fn plan_by(graph: GraphReading, latency: u32, table: &mut [u16]) -> FoundPlan
+    requires { ⌜ ((g : Graph) × Scheduled graph g × (latency ≡ latencyOf g)) ⌝ }
+    requires { ⌜ graph .tasks * graph .tasks ≤ length (now table) ⌝ }
+    ensures { λ r. ⌜ ((g : Graph) → Scheduled graph g → latency ≡ latencyOf g → PlanAnswered g r) ⌝ }
+{
+    let stage = first_stage(graph, table);
+    if stage.count < 2 {
+        return FoundPlan {
+            steps: 0,
+            latency,
+            stage,
+        };
     }
+    let tasks = graph.tasks as usize;
+    let all = tasks + graph.edges as usize;
+    let graph_source = graph.source;
+    let graph_sink = graph.sink;
+    let graph_delay = graph.delay;
+    let time = graph.time;
+    let mut source = stage.source;
+    let mut sink = stage.sink;
+    let mut delay = stage.delay;
+    let walked = plan_in_lists(
+        &graph_source[0..all],
+        &graph_sink[0..all],
+        &graph_delay[0..all],
+        &time[0..tasks],
+        graph.output as usize,
+        graph.bound,
+        latency,
+        stage.count as usize,
+        &mut source,
+        &mut sink,
+        &mut delay,
+        table,
+    );
+    FoundPlan {
+        steps: walked.steps,
+        latency: walked.latency,
+        stage: StageEdges {
+            count: walked.count as u32,
+            source,
+            sink,
+            delay,
+        },
+    }
+}
+
+// The plan of an accepted graph, whose latency is known. Of few tasks a small table will do, which is sooner cleared.
+pub fn planned(graph: GraphReading, latency: u32) -> FoundPlan
+    requires { ⌜ ((g : Graph) × Scheduled graph g × (latency ≡ latencyOf g)) ⌝ }
+    ensures { λ r. ⌜ ((g : Graph) → Scheduled graph g → latency ≡ latencyOf g → PlanAnswered g r) ⌝ }
+{
+    if graph.tasks <= 16 {
+        let mut small: [u16; 256] = [0; 256];
+        return plan_by(graph, latency, &mut small);
+    }
+    let mut table: [u16; 4096] = [0; 4096];
+    plan_by(graph, latency, &mut table)
 }

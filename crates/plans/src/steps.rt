@@ -1,53 +1,46 @@
 // One step of the plan: the best candidate is added, and what it subsumes is dropped.
-ghost use mathlib.Core.Path.{_≡_};
-ghost use mathlib.Core.Bool.{true};
 ghost use mathlib.Core.List.{List};
+ghost use Prim.Native.Nat.{_*_, _≤_};
+ghost use lib.ListN.{length};
 ghost use Rattle.model.specs.Tasks.{Edge};
 ghost use Rattle.model.specs.Graph.{Graph};
-ghost use Rattle.model.specs.Plan.{step};
-ghost use Rattle.prepared.specs.Ready.{Ready};
-ghost use Rattle.present.specs.Present.{Staged, Kept};
-ghost use Rattle.plans.specs.Plans.{StepAnswered, orPresent};
+ghost use Rattle.plans.specs.Plans.{Here, Stepped};
 use crate::StepAnswer;
 use candidates::best_pair;
-use present::task_times;
-use readings::GraphReading;
-use results::ResultEdges;
-use stages::StageEdges;
 use stages::replace;
 use updates::add_pair;
 
-// One step from a stage of an accepted graph, by its delays and counts; they are those of the next stage then, if a candidate was taken.
-pub fn step<'a>(
-    graph: GraphReading,
-    kept: ResultEdges,
-    stage: StageEdges,
-    from: &'a mut [u16],
-    to: &'a mut [u16],
-    counts: &'a mut [u16],
+// One step from a stage of an accepted graph, by its delays, counts and times; stage, delays and counts are the next one's then, if a candidate was taken.
+// Two more lists are for the delays before the step.
+pub fn step<'a, 'b>(
+    tasks: usize,
+    count: usize,
+    source: &'b mut [u8],
+    sink: &'b mut [u8],
+    delay: &'b mut [u8],
+    from: &'b mut [u16],
+    to: &'b mut [u16],
+    counts: &'b mut [u16],
+    old_from: &'b mut [u16],
+    old_to: &'b mut [u16],
+    end: &'a [u32],
+    latest: &'a [u32],
 ) -> StepAnswer
-    requires { ⌜ ((g : Graph) × (list : List Edge) × Staged graph stage g list × Kept g kept × Ready g list (now from) (now to) (now counts)) ⌝ }
-    ensures answer { λ r. ⌜ ((g : Graph) (list : List Edge) → Staged graph stage g list → Kept g kept → Ready g list (now (from .entry)) (now (to .entry)) (now (counts .entry)) → StepAnswered g list r) ⌝ }
-    ensures ready { λ r. ⌜ ((g : Graph) (list : List Edge) → Staged graph stage g list → Kept g kept → Ready g list (now (from .entry)) (now (to .entry)) (now (counts .entry)) → r .taken ≡ true → Ready g (orPresent (step g list) list) (now (from .exit)) (now (to .exit)) (now (counts .exit))) ⌝ }
+    requires { ⌜ (tasks * 64 ≤ length (now «old_from»)) × (tasks * 64 ≤ length (now «old_to»)) ⌝ }
+    requires { ⌜ ((g : Graph) × (list : List Edge) × Here g list tasks count (now source) (now sink) (now delay) (now from) (now to) (now counts) (now end) (now latest)) ⌝ }
+    ensures { λ r. ⌜ ((g : Graph) (list : List Edge) → Here g list tasks count (now (source .entry)) (now (sink .entry)) (now (delay .entry)) (now (from .entry)) (now (to .entry)) (now (counts .entry)) (now (end .entry)) (now (latest .entry)) → Stepped g list r (now (source .exit)) (now (sink .exit)) (now (delay .exit)) (now (from .exit)) (now (to .exit)) (now (counts .exit))) ⌝ }
 {
-    let tasks = graph.tasks as usize;
-    let rows = task_times(graph, kept, stage);
-    let end = rows.end;
-    let latest = rows.latest;
-    let pair = best_pair(counts, to, &end[0..tasks], &latest[0..tasks], tasks);
+    let pair = best_pair(counts, to, end, latest, tasks);
+    let a = pair.source as usize;
+    let b = pair.sink as usize;
     if pair.gain < 2 {
         return StepAnswer {
             taken: false,
-            stage,
+            source: a,
+            sink: b,
+            count,
         };
     }
-    let a = pair.source as usize;
-    let b = pair.sink as usize;
-    let next = replace(stage, from, to, tasks, a, b);
-    let count = stage.count as usize;
-    let source = stage.source;
-    let sink = stage.sink;
-    let delay = stage.delay;
     add_pair(
         &source[0..count],
         &sink[0..count],
@@ -58,9 +51,15 @@ pub fn step<'a>(
         from,
         to,
         counts,
+        old_from,
+        old_to,
     );
+    // The delays to the pair's source and from its sink are as before.
+    let left = replace(count, from, to, tasks, a, b, source, sink, delay);
     StepAnswer {
         taken: true,
-        stage: next,
+        source: a,
+        sink: b,
+        count: left,
     }
 }

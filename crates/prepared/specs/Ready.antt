@@ -2,7 +2,7 @@
 use mathlib.Core.Path.{_≡_}
 use mathlib.Core.List.{List}
 use mathlib.Core.Option.{Option, none, some}
-use Prim.Native.Nat.{ℕ, _+_, _*_, _<_, min}
+use Prim.Native.Nat.{ℕ, _+_, _*_, _≤_, _<_, min}
 use lib.ListN.{length}
 use Rattle.model.specs.Tasks.{Edge}
 use Rattle.model.specs.Graph.{Graph, count}
@@ -19,8 +19,8 @@ cut none = 32767
 -- The lists hold the least delays of the present graph, 0 from a task to itself, in rows by their source and in rows by their sink, and how many edges of the
 -- stage each pair subsumes.
 pub record Ready (g : Graph) (list : List Edge) (from to counts : List ℕ) : Type 0 where
-  pub from-size : length from ≡ 4096
-  pub to-size : length to ≡ 4096
+  pub from-size : count g * 64 ≤ length from
+  pub to-size : count g * 64 ≤ length to
   pub from-small : Small from
   pub to-small : Small to
   pub from-is : (x y : ℕ) → x < count g → y < count g → at from (x * 64 + y) ≡ cut (counting (count g) (presentEdges g list) x y)

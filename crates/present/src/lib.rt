@@ -1,142 +1,173 @@
-// The present graph of a stage of the plan: its edges, how early its tasks end in the first turn and how late they may start, and its latency.
+// The present graph of a stage of the plan: how early its tasks end in the first turn, and how late they may start. They are found by the graph's own
+// edges and the pairs added so far, which order the tasks as the present graph does; a pair that asks for nothing new leaves them as they are.
 ghost use mathlib.Core.Path.{_≡_};
+ghost use mathlib.Core.Logic.{_⊎_};
+ghost use mathlib.Core.Bool.{true, false};
 ghost use mathlib.Core.List.{List};
-ghost use lib.ListN.{length, take};
-ghost use Rattle.model.specs.Tasks.{Edge};
-ghost use Rattle.model.specs.Graph.{Graph};
-ghost use Rattle.model.specs.Compute.{latencyOf};
-ghost use Rattle.model.specs.Proposals.{result};
-ghost use Rattle.model.specs.Plan.{presentEdges};
-ghost use Rattle.schedule.specs.Schedule.{Scheduled};
-ghost use Rattle.stages.specs.Stages.{HeldStage};
-ghost use Rattle.results.specs.Results.{HeldResult};
-ghost use Rattle.present.specs.Present.{Staged, Kept, Timed};
+ghost use Prim.Native.Nat.{_+_, _≤_, _<_};
+ghost use lib.ListN.{length};
+ghost use Rattle.model.specs.Tasks.{Edge, Ends};
+ghost use Rattle.model.specs.Graph.{Graph, edges};
+ghost use Rattle.model.specs.Compute.{zeroCycle, latency};
+ghost use Rattle.model.specs.Proposals.{AcceptedGraph};
+ghost use Rattle.model.specs.Plan.{firstStage, replaced};
+ghost use Rattle.records.specs.Columns.{edgesOf, at};
+ghost use Rattle.starts.specs.Starts.{FileTimes};
+ghost use Rattle.latest.specs.Latest.{earliestEnds, LatestStarts};
+ghost use Rattle.present.specs.Present.{Clocked, Ordered, Timed, Adding};
 use latest::ends_along;
 use latest::latest_along;
-use order::zero_order;
-use readings::GraphReading;
-use results::ResultEdges;
-use results::result_edges_on;
-use results::with_edges;
-use stages::StageEdges;
-use stages::blank_stage;
+use order::list_in_order;
+use results::append;
+use results::store;
 
-// The edges that the present graph of every stage has: a graph's processor and feedback edges.
-pub fn kept_edges(graph: GraphReading) -> ResultEdges
-    requires { ⌜ ((g : Graph) × Scheduled graph g) ⌝ }
-    ensures { λ r. ⌜ ((g : Graph) → Scheduled graph g → Kept g r) ⌝ }
+// From here on a latest start is that of a task that no path of delay 0 leads from to the output.
+const FAR: u32 = 1073741824;
+
+// How early tasks end in the first turn, and how late they may start: one order of the edges of delay 0 serves both.
+fn task_times<'a, 'b>(
+    source: &'a [u8],
+    sink: &'a [u8],
+    delay: &'a [u8],
+    time: &'a [u16],
+    output: usize,
+    bound: u32,
+    end: &'b mut [u32],
+    latest: &'b mut [u32],
+)
+    requires { ⌜ (length (now sink) ≡ length (now source)) × (length (now delay) ≡ length (now source)) ⌝ }
+    requires { ⌜ (length (now time) ≤ 64) × (length (now end) ≡ length (now time)) × (length (now latest) ≡ length (now time)) × (output < length (now time)) ⌝ }
+    requires { ⌜ Ends (length (now time)) (edgesOf (now source) (now sink) (now delay)) ⌝ }
+    requires { ⌜ zeroCycle (length (now time)) (edgesOf (now source) (now sink) (now delay)) ≡ false ⌝ }
+    requires { ⌜ FileTimes (now time) ⌝ }
+    requires { ⌜ (latency (length (now time)) (edgesOf (now source) (now sink) (now delay)) (at (now time)) output ≤ bound) × (bound < 8388608) ⌝ }
+    ensures end { λ _. ⌜ now (end .exit) ≡ earliestEnds (length (now (time .entry))) (edgesOf (now (source .entry)) (now (sink .entry)) (now (delay .entry))) (at (now (time .entry))) ⌝ }
+    ensures latest { λ _. ⌜ LatestStarts (length (now (time .entry))) (edgesOf (now (source .entry)) (now (sink .entry)) (now (delay .entry))) (at (now (time .entry))) output bound (now (latest .exit)) ⌝ }
 {
-    let tasks = graph.tasks as usize;
-    let end = tasks + graph.edges as usize;
-    let source = graph.source;
-    let sink = graph.sink;
-    let delay = graph.delay;
-    let none = blank_stage();
-    let none_source = none.source;
-    let none_sink = none.sink;
-    let none_delay = none.delay;
-    let processor = graph.processor;
-    result_edges_on(
-        &source[0..end],
-        &sink[0..end],
-        &delay[0..end],
-        &processor[0..tasks],
-        &none_source[0..0],
-        &none_sink[0..0],
-        &none_delay[0..0],
-    )
-}
-
-// Two numbers for each of up to 64 tasks.
-pub struct TaskRows {
-    pub end: [u32; 64],
-    pub latest: [u32; 64],
-}
-
-// Rows to write into.
-fn blank_rows() -> TaskRows
-    ensures { λ r. ⌜ (length (r .end) ≡ 64) × (length (r .latest) ≡ 64) ⌝ }
-{
-    TaskRows {
-        end: [0; 64],
-        latest: [0; 64],
-    }
-}
-
-// The edges of the present graph of a stage: those that every stage has, and then its own.
-fn present_edges(kept: ResultEdges, stage: StageEdges) -> ResultEdges
-    requires { ⌜ ((g : Graph) × (list : List Edge) × Kept g kept × HeldStage stage list) ⌝ }
-    ensures { λ r. ⌜ ((g : Graph) (list : List Edge) → Kept g kept → HeldStage stage list → HeldResult r (presentEdges g list)) ⌝ }
-{
-    let count = stage.count as usize;
-    let source = stage.source;
-    let sink = stage.sink;
-    let delay = stage.delay;
-    with_edges(kept, &source[0..count], &sink[0..count], &delay[0..count])
-}
-
-// How early tasks end in the first turn of a stage's present graph, and how late they may start: one order of its edges of delay 0 serves both.
-pub fn task_times(graph: GraphReading, kept: ResultEdges, stage: StageEdges) -> TaskRows
-    requires { ⌜ ((g : Graph) × (list : List Edge) × Staged graph stage g list × Kept g kept) ⌝ }
-    ensures { λ r. ⌜ ((g : Graph) (list : List Edge) → Staged graph stage g list → Kept g kept → Timed g list (take (graph .tasks) (r .end)) (take (graph .tasks) (r .latest))) ⌝ }
-{
-    let tasks = graph.tasks as usize;
-    let time = graph.time;
-    let present = present_edges(kept, stage);
-    let all = present.count as usize;
-    let source = present.source;
-    let sink = present.sink;
-    let delay = present.delay;
-    let order = zero_order(&source[0..all], &sink[0..all], &delay[0..all], tasks);
-    let order_source = order.source;
-    let order_sink = order.sink;
-    let rows = blank_rows();
-    let mut end = rows.end;
-    let mut latest = rows.latest;
+    let mut order_source: [u8; 576] = [0; 576];
+    let mut order_sink: [u8; 576] = [0; 576];
+    let order = list_in_order(
+        source,
+        sink,
+        delay,
+        time.len(),
+        &mut order_source,
+        &mut order_sink,
+    );
     ends_along(
-        &source[0..all],
-        &sink[0..all],
-        &delay[0..all],
+        source,
+        sink,
+        delay,
         &order_source,
         &order_sink,
         order.count as usize,
         order.found,
-        &time[0..tasks],
-        &mut end[0..tasks],
+        time,
+        end,
     );
     latest_along(
-        &source[0..all],
-        &sink[0..all],
-        &delay[0..all],
+        source,
+        sink,
+        delay,
         &order_source,
         &order_sink,
         order.count as usize,
         order.found,
-        &time[0..tasks],
-        graph.output as usize,
-        graph.bound,
-        &mut latest[0..tasks],
+        time,
+        output,
+        bound,
+        latest,
     );
-    TaskRows { end, latest }
 }
 
-// The latency of the graph that a stage leads to.
-pub fn stage_latency(graph: GraphReading, kept: ResultEdges, stage: StageEdges) -> u32
-    requires { ⌜ ((g : Graph) × (list : List Edge) × Staged graph stage g list × Kept g kept) ⌝ }
-    ensures { λ r. ⌜ ((g : Graph) (list : List Edge) → Staged graph stage g list → Kept g kept → r ≡ latencyOf (result g list)) ⌝ }
+// Whether a task that ends at `end` ends before one starts that ends at `other` after its time.
+fn ends_before(end: u32, time: u16, other: u32) -> bool
+    ensures { λ r. ⌜ (r ≡ true → end + time ≤ other) ⌝ }
 {
-    let tasks = graph.tasks as usize;
-    let time = graph.time;
-    let present = present_edges(kept, stage);
-    let all = present.count as usize;
-    let source = present.source;
-    let sink = present.sink;
-    let delay = present.delay;
-    starts::latency(
-        &source[0..all],
-        &sink[0..all],
-        &delay[0..all],
-        &time[0..tasks],
-        graph.output as usize,
-    )
+    if other < end {
+        return false;
+    }
+    time as u32 <= other - end
+}
+
+// Whether a task that starts at `start` at the latest lets one start in time that has to start at `other`.
+fn in_time_for(start: u32, time: u16, other: u32) -> bool
+    ensures { λ r. ⌜ (r ≡ true → (1073741824 ≤ other) ⊎ (start + time ≤ other)) ⌝ }
+{
+    if FAR <= other {
+        return true;
+    }
+    ends_before(start, time, other)
+}
+
+// Whether the pair (a, b) asks for no later end and no earlier start than there are.
+fn asks_nothing<'a>(end: &'a [u32], latest: &'a [u32], time: &'a [u16], a: usize, b: usize) -> bool
+    requires { ⌜ (length (now end) ≡ length (now time)) × (length (now latest) ≡ length (now time)) × (a < length (now time)) × (b < length (now time)) ⌝ }
+    ensures { λ r. ⌜ (r ≡ true → (at (now (end .entry)) a + at (now (time .entry)) b ≤ at (now (end .entry)) b) × ((1073741824 ≤ at (now (latest .entry)) b) ⊎ (at (now (latest .entry)) a + at (now (time .entry)) a ≤ at (now (latest .entry)) b))) ⌝ }
+{
+    if !ends_before(end[a], time[b], end[b]) {
+        return false;
+    }
+    in_time_for(latest[a], time[a], latest[b])
+}
+
+// The edges of an accepted graph, into lists, and the times of its first stage: what the first stage drops changes none.
+pub fn first_times<'a, 'b>(
+    source: &'a [u8],
+    sink: &'a [u8],
+    delay: &'a [u8],
+    time: &'a [u16],
+    output: usize,
+    bound: u32,
+    to_source: &'b mut [u8],
+    to_sink: &'b mut [u8],
+    to_delay: &'b mut [u8],
+    end: &'b mut [u32],
+    latest: &'b mut [u32],
+)
+    requires { ⌜ (length (now sink) ≡ length (now source)) × (length (now delay) ≡ length (now source)) × (length (now source) ≤ 576) ⌝ }
+    requires { ⌜ (length (now «to_source») ≡ 576) × (length (now «to_sink») ≡ 576) × (length (now «to_delay») ≡ 576) ⌝ }
+    requires { ⌜ (length (now end) ≡ length (now time)) × (length (now latest) ≡ length (now time)) ⌝ }
+    requires { ⌜ ((g : Graph) × AcceptedGraph g × Clocked g (now time) output bound × (edgesOf (now source) (now sink) (now delay) ≡ edges g)) ⌝ }
+    ensures ordered { λ _. ⌜ ((g : Graph) → AcceptedGraph g → edgesOf (now (source .entry)) (now (sink .entry)) (now (delay .entry)) ≡ edges g → Ordered g (firstStage g) (length (now (source .entry))) (now («to_source» .exit)) (now («to_sink» .exit)) (now («to_delay» .exit))) ⌝ }
+    ensures timed { λ _. ⌜ ((g : Graph) → AcceptedGraph g → Clocked g (now (time .entry)) output bound → edgesOf (now (source .entry)) (now (sink .entry)) (now (delay .entry)) ≡ edges g → Timed g (firstStage g) (now (end .exit)) (now (latest .exit))) ⌝ }
+{
+    append(source, sink, delay, 0, to_source, to_sink, to_delay);
+    task_times(source, sink, delay, time, output, bound, end, latest);
+}
+
+// The edges with the pair (a, b) added to them, and the times of the stage after the step that takes it.
+pub fn next_times<'a, 'b>(
+    time: &'a [u16],
+    output: usize,
+    bound: u32,
+    all: usize,
+    a: usize,
+    b: usize,
+    source: &'b mut [u8],
+    sink: &'b mut [u8],
+    delay: &'b mut [u8],
+    end: &'b mut [u32],
+    latest: &'b mut [u32],
+)
+    requires { ⌜ all < 576 ⌝ }
+    requires { ⌜ ((g : Graph) × (list : List Edge) × Adding g list a b (now time) output bound all (now source) (now sink) (now delay) (now end) (now latest)) ⌝ }
+    ensures ordered { λ _. ⌜ ((g : Graph) (list : List Edge) → Adding g list a b (now (time .entry)) output bound all (now (source .entry)) (now (sink .entry)) (now (delay .entry)) (now (end .entry)) (now (latest .entry)) → Ordered g (replaced g list a b) (all + 1) (now (source .exit)) (now (sink .exit)) (now (delay .exit))) ⌝ }
+    ensures timed { λ _. ⌜ ((g : Graph) (list : List Edge) → Adding g list a b (now (time .entry)) output bound all (now (source .entry)) (now (sink .entry)) (now (delay .entry)) (now (end .entry)) (now (latest .entry)) → Timed g (replaced g list a b) (now (end .exit)) (now (latest .exit))) ⌝ }
+{
+    store(a as u8, b as u8, 0, all, source, sink, delay);
+    if asks_nothing(end, latest, time, a, b) {
+        return;
+    }
+    let count = all + 1;
+    task_times(
+        &source[0..count],
+        &sink[0..count],
+        &delay[0..count],
+        time,
+        output,
+        bound,
+        end,
+        latest,
+    );
 }

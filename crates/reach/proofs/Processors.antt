@@ -32,8 +32,8 @@ ends-held source sink delay n held e m =
     subst (λ (x : Edge). (x .source < n) × (x .sink < n)) (sym (r .2)) (held (r .0) (r .1))
 
 module _
-    (source sink delay processor : List ℕ) (n : ℕ) (same : length sink ≡ length source) (ends : Ends n (edgesOf source sink delay))
-    (few : (v : ℕ) → v < n → at processor v < 16) where
+    (source sink delay processor : List ℕ) (n used : ℕ) (same : length sink ≡ length source) (ends : Ends n (edgesOf source sink delay))
+    (few : (v : ℕ) → v < n → at processor v < used) where
   abbrev es : List Edge
   es = edgesOf source sink delay
 
@@ -59,13 +59,13 @@ module _
       let r = edge-out (processorsOf processor source) (processorsOf processor sink) delay f m in
       (r .0, subst (λ (k : ℕ). r .0 < k) (as-many-processors processor source) (r .1), r .2)
 
-  q-ends : Ends 16 qs
+  q-ends : Ends used qs
   unfolding heldEdge
   q-ends f m =
       let r = place-out f m in
       let e = heldEdge source sink delay (r .0) in
       let own = ends e (edge-in source sink delay (r .0) (r .1)) in
-      (subst (λ (k : ℕ). k < 16) (sym (ap (λ (x : Edge). x .source) (r .2) ∙ from (r .0) (r .1))) (few (e .source) (own .0)), subst (λ (k : ℕ). k < 16) (sym (ap (λ (x : Edge). x .sink) (r .2) ∙ to (r .0) (r .1))) (few (e .sink) (own .1)))
+      (subst (λ (k : ℕ). k < used) (sym (ap (λ (x : Edge). x .source) (r .2) ∙ from (r .0) (r .1))) (few (e .source) (own .0)), subst (λ (k : ℕ). k < used) (sym (ap (λ (x : Edge). x .sink) (r .2) ∙ to (r .0) (r .1))) (few (e .sink) (own .1)))
 
   -- ── From tasks to processors ──
 
@@ -121,9 +121,9 @@ module _
             let round = circled (t .0) b (t .1) k (t .2) in
             (t .3 + round .0, path-append (t .4) (round .1))
 
-    same-present : (a b : ℕ) → a < n → b < n → present (leastDelay 16 qs (at processor a) (at processor b)) ≡ present (leastDelay n es a b)
+    same-present : (a b : ℕ) → a < n → b < n → present (leastDelay used qs (at processor a) (at processor b)) ≡ present (leastDelay n es a b)
     unfolding present
-    same-present a b l k = go (least-delay 16 qs q-ends (at processor a) (at processor b)) (least-delay n es ends a b)
+    same-present a b l k = go (least-delay used qs q-ends (at processor a) (at processor b)) (least-delay n es ends a b)
       where
         go : {o o′ : Option ℕ} → Least qs (at processor a) (at processor b) o → Least es a b o′ → present o ≡ present o′
         go (smallest r h) (smallest r′ h′) = refl
@@ -131,7 +131,7 @@ module _
         go (no-path h) (smallest r′ h′) = let found = to-processors r′ in absurd (h (found .0) (found .1))
         go (no-path h) (no-path h′) = refl
 
-    pub reaches-on : {words : List ℕ} → Reaches 16 qs words → ReachesOn n es processor words
+    pub reaches-on : {words : List ℕ} → Reaches used qs words → ReachesOn n es processor words
     reaches-on reached = record {
       room = reached .room;
       paths = λ a b l k. reached .paths (at processor a) (at processor b) (few a l) (few b k) ∙ same-present a b l k;

@@ -55,16 +55,16 @@ present-more t (x ∷ es) e = go (t x) (present-more t es e)
 
 -- the words after j edges
 pub record Taken (source sink : List ℕ) (j : ℕ) (words : List ℕ) : Type 0 where
-  pub room : length words ≡ 64
+  pub room : length words ≡ 16
   pub edges :
-      (delay : List ℕ) (a b : ℕ) → a < 64 → bitAt words a b ≡ present (shortest (keep (joins a b) (tabulate j (heldEdge source sink delay))))
+      (delay : List ℕ) (a b : ℕ) → a < 16 → bitAt words a b ≡ present (shortest (keep (joins a b) (tabulate j (heldEdge source sink delay))))
 
-pub taken-none : (source sink words : List ℕ) → words ≡ replicate 64 0 → Taken source sink 0 words
+pub taken-none : (source sink words : List ℕ) → words ≡ replicate 16 0 → Taken source sink 0 words
 unfolding tabulate keep shortest present
 taken-none source sink words blank = record {
-  room = ap length blank ∙ length-replicate {A = ℕ} 64 0;
+  room = ap length blank ∙ length-replicate {A = ℕ} 16 0;
   edges = λ delay a b l.
-      ap (λ (xs : List ℕ). bitAt xs a b) blank ∙ (ap (λ (word : ℕ). bit word b) (getD-replicate {A = ℕ} 64 a 0 0 l) ∙ bit-zero b);
+      ap (λ (xs : List ℕ). bitAt xs a b) blank ∙ (ap (λ (word : ℕ). bit word b) (getD-replicate {A = ℕ} 16 a 0 0 l) ∙ bit-zero b);
 }
 
 -- an edge stored at its source's word
@@ -86,12 +86,12 @@ edge-stored words from to word a b inside stored = go (cases (eqb from a))
 
 pub taken-more :
     (source sink : List ℕ) (j word : ℕ) {words words′ : List ℕ} → Taken source sink j words → words′ ≡ set words (getD source j 0) word
-    → getD source j 0 < 64 → ((b : ℕ) → bit word b ≡ bitAt words (getD source j 0) b || eqb (getD sink j 0) b) → Taken source sink (j + 1) words′
+    → getD source j 0 < 16 → ((b : ℕ) → bit word b ≡ bitAt words (getD source j 0) b || eqb (getD sink j 0) b) → Taken source sink (j + 1) words′
 unfolding tabulate joins heldEdge
 taken-more source sink j word {words} {words′} done is inside stored = record {
   room = ap length is ∙ (length-set words (getD source j 0) word ∙ done .room);
   edges = λ delay a b l.
-      let room : length words ≡ 64 = done .room in
+      let room : length words ≡ 16 = done .room in
       let f = heldEdge source sink delay in
       let t = joins a b in
       ap (λ (xs : List ℕ). bitAt xs a b) is ∙
@@ -102,7 +102,7 @@ taken-more source sink j word {words} {words′} done is inside stored = record 
 }
 
 pub taken-all :
-    (source sink : List ℕ) (j n : ℕ) {words : List ℕ} → Taken source sink j words → length source ≡ j → n ≤ 64 → (delay : List ℕ)
+    (source sink : List ℕ) (j n : ℕ) {words : List ℕ} → Taken source sink j words → length source ≡ j → n ≤ 16 → (delay : List ℕ)
     → Through 0 n (edgesOf source sink delay) words
 unfolding through edgesOf
 taken-all source sink j n done whole few delay = record {
@@ -116,15 +116,15 @@ taken-all source sink j n done whole few delay = record {
 
 -- the words of the first i tasks joined with word k, the others as before
 pub record PartJoined (i k : ℕ) (before after : List ℕ) : Type 0 where
-  pub room : length after ≡ 64
+  pub room : length after ≡ 16
   pub done : (a b : ℕ) → a < i → bitAt after a b ≡ bitAt before a b || (bitAt before a k && bitAt before k b)
   pub rest : (a : ℕ) → i ≤ a → getD after a 0 ≡ getD before a 0
 
-pub joined-none : (k : ℕ) (words : List ℕ) → length words ≡ 64 → PartJoined 0 k words words
+pub joined-none : (k : ℕ) (words : List ℕ) → length words ≡ 16 → PartJoined 0 k words words
 joined-none k words room = record { room = room; done = λ a b l. absurd (not-suc-le-zero l); rest = λ a l. refl }
 
 pub joined-more :
-    {i k : ℕ} {before words words′ : List ℕ} (word : ℕ) → PartJoined i k before words → words′ ≡ set words i word → i < 64
+    {i k : ℕ} {before words words′ : List ℕ} (word : ℕ) → PartJoined i k before words → words′ ≡ set words i word → i < 16
     → ((b : ℕ) → bit word b ≡ bitAt words i b || (bitAt words i k && bitAt before k b)) → PartJoined (i + 1) k before words′
 joined-more {i} {k} {before} {words} {words′} word part is inside stored = record {
   room = ap length is ∙ (length-set words i word ∙ part .room);
@@ -138,7 +138,7 @@ joined-more {i} {k} {before} {words} {words′} word part is inside stored = rec
         ap (λ (xs : List ℕ). bitAt xs a b) is ∙
         (ap (λ (x : ℕ). bit x b) (getD-set-other words i a word 0 (λ q. omega arith)) ∙ part .done a b l)
     done a b (inr q) =
-        let room : length words ≡ 64 = part .room in
+        let room : length words ≡ 16 = part .room in
         let old : getD words i 0 ≡ getD before i 0 = part .rest i (omega arith) in
         ap (λ (xs : List ℕ). bitAt xs a b) is ∙
         (ap (λ (v : ℕ). bitAt (set words i word) v b) q ∙
@@ -163,6 +163,10 @@ through-more {k} {n} {es} {before} {after} held joined inner = record {
       (sym (present-lesser (through es k a b) (plus (through es k a k) (through es k k b))) ∙
       ap (λ (i : ℕ). present (through es i a b)) (sym (add-one k))));
 }
+
+-- of fewer processors
+pub through-fewer : {k m n : ℕ} {es : List Edge} {words : List ℕ} → m ≤ n → Through k n es words → Through k m es words
+through-fewer few held = record { room = held .room; paths = λ a b l m. held .paths a b (omega arith) (omega arith) }
 
 pub through-all : {k n : ℕ} {es : List Edge} {words : List ℕ} → Through k n es words → k ≡ n → Reaches n es words
 unfolding leastDelay

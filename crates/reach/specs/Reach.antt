@@ -1,4 +1,4 @@
--- Only for contracts inside: words of 64 bits hold which tasks, or which processors, a path leads to.
+-- Only for contracts inside: words hold which processors a path leads to. Between processors go edges too, whose ends are processors.
 use mathlib.Core.Path.{_≡_}
 use mathlib.Core.Bool.{Bool, _||_, _&&_}
 use mathlib.Core.List.{List}
@@ -19,22 +19,22 @@ bit word b = eqb (word / 2 ^ b % 2) 1
 abbrev pub bitAt : List ℕ → ℕ → ℕ → Bool
 bitAt words a b = bit (getD words a 0) b
 
--- bit b of word a says that a path of es leads from a to b, for the first n tasks
+-- bit b of word a says that a path of es leads from a to b, for the first n processors
 pub record Reaches (n : ℕ) (es : List Edge) (words : List ℕ) : Type 0 where
-  pub room : length words ≡ 64
+  pub room : length words ≡ 16
   pub paths : (a b : ℕ) → a < n → b < n → bitAt words a b ≡ present (leastDelay n es a b)
 
--- the same for the paths whose inner tasks are below k
+-- the same for the paths whose inner processors are below k
 pub record Through (k n : ℕ) (es : List Edge) (words : List ℕ) : Type 0 where
-  pub room : length words ≡ 64
+  pub room : length words ≡ 16
   pub paths : (a b : ℕ) → a < n → b < n → bitAt words a b ≡ present (through es k a b)
 
 -- one round: where its bit k is set, each of the first n words has taken the bits of word k
 pub record Joined (n k : ℕ) (before after : List ℕ) : Type 0 where
-  pub room : length after ≡ 64
+  pub room : length after ≡ 16
   pub bits : (a b : ℕ) → a < n → bitAt after a b ≡ bitAt before a b || (bitAt before a k && bitAt before k b)
 
--- ── Between processors ──
+-- ── Between tasks ──
 
 -- the processor of each task of a list
 unfoldable pub processorsOf : List ℕ → List ℕ → List ℕ
@@ -46,5 +46,5 @@ Circled n es processor = (a b : ℕ) → a < n → b < n → at processor a ≡ 
 
 -- bit q of word p says that a path of es leads from a task of processor p to a task of processor q, for n tasks
 pub record ReachesOn (n : ℕ) (es : List Edge) (processor words : List ℕ) : Type 0 where
-  pub room : length words ≡ 64
+  pub room : length words ≡ 16
   pub paths : (a b : ℕ) → a < n → b < n → bitAt words (at processor a) (at processor b) ≡ present (leastDelay n es a b)

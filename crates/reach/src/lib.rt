@@ -1,24 +1,17 @@
-// Which tasks, or which processors, a path leads to: a word of 64 bits for each, by Warshall's algorithm.
+// Which processors a path leads to: a word for each, by Warshall's algorithm.
 ghost use mathlib.Core.Path.{_≡_};
 ghost use mathlib.Core.Bool.{_||_, _&&_};
 ghost use mathlib.Core.List.{List};
-ghost use Prim.Native.Nat.{ℕ, _≤_, _<_};
+ghost use Prim.Native.Nat.{ℕ, _≤_, _<_, max};
 ghost use lib.Dec.{eqb};
 ghost use lib.ListN.{length, getD, replicate};
 ghost use Rattle.model.specs.Tasks.{Edge};
 ghost use Rattle.records.specs.Columns.{edgesOf, at};
 ghost use Rattle.reach.specs.Reach.{bit, Reaches, Through, Joined, processorsOf, Circled, ReachesOn};
 
-// Word a, bit b: a path leads from task a to task b, or from processor a to processor b.
+// Word a, bit b: a path leads from processor a to processor b.
 pub struct Reach {
-    pub words: [u64; 64],
-}
-
-// Words without any path.
-fn no_paths() -> Reach
-    ensures { λ r. ⌜ r .words ≡ replicate 64 0 ⌝ }
-{
-    Reach { words: [0; 64] }
+    pub words: [u64; 16],
 }
 
 // A word with one bit set.
@@ -40,27 +33,27 @@ fn joined(word: u64, row: u64, k: usize) -> u64
     word | row
 }
 
-// One round: a task from which a path leads to task k takes over where paths lead from k.
-fn join_through(k: usize, tasks: usize, words: &mut [u64])
-    requires { ⌜ (k < tasks) × (tasks ≤ 64) × (length (now words) ≡ 64) ⌝ }
-    ensures { λ _. ⌜ Joined tasks k (now (words .entry)) (now (words .exit)) ⌝ }
+// One round: a processor from which a path leads to processor k takes over where paths lead from k.
+fn join_through(k: usize, count: usize, words: &mut [u64])
+    requires { ⌜ (k < count) × (count ≤ 16) × (length (now words) ≡ 16) ⌝ }
+    ensures { λ _. ⌜ Joined count k (now (words .entry)) (now (words .exit)) ⌝ }
 {
     let row = words[k];
     let mut a = 0;
-    while a < tasks {
+    while a < count {
         words[a] = joined(words[a], row, k);
         a += 1;
     }
 }
 
-// As many rounds as tasks: after k of them, all paths whose inner tasks are below k count.
-fn join_all(tasks: usize, words: &mut [u64])
-    requires { ⌜ (tasks ≤ 64) × (length (now words) ≡ 64) ⌝ }
-    ensures { λ _. ⌜ ((es : List Edge) → Through 0 tasks es (now (words .entry)) → Reaches tasks es (now (words .exit))) ⌝ }
+// As many rounds as processors: after k of them, all paths whose inner processors are below k count.
+fn join_all(count: usize, words: &mut [u64])
+    requires { ⌜ (count ≤ 16) × (length (now words) ≡ 16) ⌝ }
+    ensures { λ _. ⌜ ((es : List Edge) → Through 0 count es (now (words .entry)) → Reaches count es (now (words .exit))) ⌝ }
 {
     let mut k = 0;
-    while k < tasks {
-        join_through(k, tasks, words);
+    while k < count {
+        join_through(k, count, words);
         k += 1;
     }
 }
@@ -78,7 +71,7 @@ fn take_between<'a>(source: &'a [u8], sink: &'a [u8], processor: &'a [u8], words
     requires { ⌜ length (now sink) ≡ length (now source) ⌝ }
     requires { ⌜ ((j : ℕ) → j < length (now source) → (at (now source) j < length (now processor)) × (at (now sink) j < length (now processor))) ⌝ }
     requires { ⌜ ((v : ℕ) → v < length (now processor) → at (now processor) v < 16) ⌝ }
-    requires { ⌜ now words ≡ replicate 64 0 ⌝ }
+    requires { ⌜ now words ≡ replicate 16 0 ⌝ }
     ensures { λ _. ⌜ ((delay : List ℕ) → Through 0 16 (edgesOf (processorsOf (now (processor .entry)) (now (source .entry))) (processorsOf (now (processor .entry)) (now (sink .entry))) delay) (now (words .exit))) ⌝ }
 {
     let mut j = 0;
@@ -90,22 +83,46 @@ fn take_between<'a>(source: &'a [u8], sink: &'a [u8], processor: &'a [u8], words
     }
 }
 
-// Between which processors a path leads, and so between which tasks, where tasks of one processor lead to one another: 16 rounds over 16 words
-// serve 64 tasks.
+// The greater of two processors.
+fn greater(a: u8, b: u8) -> u8
+    ensures { λ r. ⌜ r ≡ max a b ⌝ }
+{
+    if a < b {
+        return b;
+    }
+    a
+}
+
+// A number that every processor of the tasks is below: one more than the highest of them.
+fn processors_used(processor: &[u8]) -> usize
+    requires { ⌜ ((v : ℕ) → v < length (now processor) → at (now processor) v < 16) ⌝ }
+    ensures { λ r. ⌜ (r ≤ 16) × ((v : ℕ) → v < length (now (processor .entry)) → at (now (processor .entry)) v < r) ⌝ }
+{
+    let mut highest: u8 = 0;
+    let mut v = 0;
+    while v < processor.len() {
+        highest = greater(highest, processor[v]);
+        v += 1;
+    }
+    highest as usize + 1
+}
+
+// Between which processors a path leads, and so between which tasks, where tasks of one processor lead to one another: rounds over the processors used,
+// at most 16, serve 64 tasks.
 pub fn paths_between_processors<'a>(source: &'a [u8], sink: &'a [u8], processor: &'a [u8]) -> Reach
     requires { ⌜ length (now sink) ≡ length (now source) ⌝ }
     requires { ⌜ ((j : ℕ) → j < length (now source) → (at (now source) j < length (now processor)) × (at (now sink) j < length (now processor))) ⌝ }
     requires { ⌜ ((v : ℕ) → v < length (now processor) → at (now processor) v < 16) ⌝ }
     ensures { λ r. ⌜ ((delay : List ℕ) → Circled (length (now (processor .entry))) (edgesOf (now (source .entry)) (now (sink .entry)) delay) (now (processor .entry)) → ReachesOn (length (now (processor .entry))) (edgesOf (now (source .entry)) (now (sink .entry)) delay) (now (processor .entry)) (r .words)) ⌝ }
 {
-    let blank = no_paths();
-    let mut words = blank.words;
+    let mut words: [u64; 16] = [0; 16];
     take_between(source, sink, processor, &mut words);
-    join_all(16, &mut words);
+    let used = processors_used(processor);
+    join_all(used, &mut words);
     Reach { words }
 }
 
-// Whether a path leads from one task, or processor, to another.
+// Whether a path leads from one processor to another.
 pub fn leads_to(words: &[u64], from: usize, to: usize) -> bool
     requires { ⌜ (from < length (now words)) × (to < 64) ⌝ }
     ensures { λ r. ⌜ r ≡ bit (getD (now (words .entry)) from 0) to ⌝ }

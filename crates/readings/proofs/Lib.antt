@@ -5,3 +5,4 @@ pub mod Answers
 pub mod Columns
 pub mod Accepted
 pub mod Held
+mod Zeroed

@@ -9,7 +9,9 @@ use Rattle.model.specs.Tasks.{Edge, processorOf}
 use Rattle.model.specs.Graph.{Graph, timeOf, edges}
 use Rattle.records.specs.Columns.{zeros}
 use Rattle.files.specs.declared.Refusal.{Refusal}
+use Rattle.readings.specs.declared.GraphNumbers.{GraphNumbers}
 use Rattle.readings.specs.declared.GraphReading.{GraphReading}
+use Rattle.readings.specs.declared.ProposalNumbers.{ProposalNumbers}
 use Rattle.readings.specs.declared.ProposalReading.{ProposalReading}
 use Rattle.files.specs.Refusals.{notRefused, ifPassed}
 use Rattle.files.specs.Files.{edgeIn, graphOf, graphRefusal, proposalOf, proposalRefusal}
@@ -83,3 +85,22 @@ pub record GraphLists (g : Graph) (processor time source sink delay : List ℕ) 
   pub sources : source ≡ workingGraph g .source
   pub sinks : sink ≡ workingGraph g .sink
   pub delays : delay ≡ workingGraph g .delay
+
+-- Only for contracts inside: a reading whose lists stand apart from its numbers.
+abbrev pub graphFrom : GraphNumbers → List ℕ → List ℕ → List ℕ → List ℕ → List ℕ → GraphReading
+graphFrom numbers processor time source sink delay = record {
+  refusal = numbers .refusal;
+  tasks = numbers .tasks;
+  edges = numbers .edges;
+  input = numbers .input;
+  output = numbers .output;
+  bound = numbers .bound;
+  processor = processor;
+  time = time;
+  source = source;
+  sink = sink;
+  delay = delay;
+}
+
+abbrev pub proposalFrom : ProposalNumbers → List ℕ → List ℕ → List ℕ → ProposalReading
+proposalFrom numbers source sink delay = record { refusal = numbers .refusal; edges = numbers .edges; source = source; sink = sink; delay = delay }

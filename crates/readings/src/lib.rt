@@ -1,10 +1,13 @@
 // Reading a file: which graph or proposal the bytes are, in the working form, or which refusal of 1 to 8 they get.
+mod clearing;
 mod graphs;
 mod proposals;
 
 use files::Refusal;
 pub use graphs::read_graph;
+pub use graphs::read_graph_into;
 pub use proposals::read_proposal;
+pub use proposals::read_proposal_into;
 
 // A graph file as read. The edges that order the graph stand in one list: processor edges first, entry v the one out of
 // task v, then from entry `tasks` on those of the file. Past the ends, and in a refused reading, every number is 0.
@@ -23,6 +26,17 @@ pub struct GraphReading {
     pub delay: [u8; 320],
 }
 
+// The numbers of a graph file as read, where its lists stand apart. In a refused reading every number but the refusal's is 0.
+#[repr(C)]
+pub struct GraphNumbers {
+    pub refusal: Refusal,
+    pub tasks: u32,
+    pub edges: u32,
+    pub input: u32,
+    pub output: u32,
+    pub bound: u32,
+}
+
 // A proposal file as read. Past the end, and in a refused reading, every number is 0.
 #[repr(C)]
 pub struct ProposalReading {
@@ -31,4 +45,11 @@ pub struct ProposalReading {
     pub source: [u8; 256],
     pub sink: [u8; 256],
     pub delay: [u8; 256],
+}
+
+// The same of a proposal file.
+#[repr(C)]
+pub struct ProposalNumbers {
+    pub refusal: Refusal,
+    pub edges: u32,
 }

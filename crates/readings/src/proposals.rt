@@ -4,8 +4,10 @@ ghost use Prim.Native.Nat.{_≤_};
 ghost use Rattle.layout.specs.Layout.{proposalHeader};
 ghost use Rattle.files.specs.Files.{proposalOf, proposedEdgesRefusal};
 ghost use Rattle.records.specs.Columns.{zeros};
-ghost use Rattle.readings.specs.Working.{workingProposal, refusedProposal, proposalReading};
+ghost use Rattle.readings.specs.Working.{workingProposal, proposalFrom, proposalReading};
+use crate::ProposalNumbers;
 use crate::ProposalReading;
+use crate::clearing::clear_bytes;
 use files::Refusal;
 use files::proposal_frame_refusal;
 use files::proposed_refusal;
@@ -13,17 +15,11 @@ use layout::PROPOSAL_HEADER_BITS;
 use layout::ProposalHeader;
 use records::edges_into;
 
-// What is read of a refused file: the refusal, and 0 elsewhere.
-fn refused_proposal(refusal: Refusal) -> ProposalReading
-    ensures { λ r. ⌜ r ≡ refusedProposal refusal ⌝ }
+// The numbers of a refused file: the refusal, and no edges.
+fn refused_numbers(refusal: Refusal) -> ProposalNumbers
+    ensures { λ r. ⌜ r ≡ record { refusal = refusal; edges = 0 } ⌝ }
 {
-    ProposalReading {
-        refusal,
-        edges: 0,
-        source: [0; 256],
-        sink: [0; 256],
-        delay: [0; 256],
-    }
+    ProposalNumbers { refusal, edges: 0 }
 }
 
 // The edges of a file whose count is in range, into lists of zeros, and the refusal that they get.
@@ -48,28 +44,48 @@ fn proposal_records<'a>(
     proposed_refusal(tasks, &source[0..edges], &sink[0..edges], &delay[0..edges])
 }
 
-// The edges that a file proposes beside a graph of so many tasks, or the refusal of 1 to 8 that it gets: for every list of bytes
-// and every number of tasks.
-pub fn read_proposal(bytes: &[u8], tasks: usize) -> ProposalReading
-    ensures { λ r. ⌜ r ≡ proposalReading tasks (now (bytes .entry)) ⌝ }
+// The edges that a file proposes beside a graph of so many tasks, or the refusal of 1 to 8 that it gets, for every list of bytes and every number of
+// tasks: the numbers, and the lists in place of zeros.
+pub fn read_proposal_into<'a>(
+    bytes: &[u8],
+    tasks: usize,
+    source: &'a mut [u8],
+    sink: &'a mut [u8],
+    delay: &'a mut [u8],
+) -> ProposalNumbers
+    requires { ⌜ (now source ≡ zeros 256) × (now sink ≡ zeros 256) × (now delay ≡ zeros 256) ⌝ }
+    ensures { λ r. ⌜ proposalFrom r (now (source .exit)) (now (sink .exit)) (now (delay .exit)) ≡ proposalReading tasks (now (bytes .entry)) ⌝ }
 {
     let header = layout::proposal_header(bytes);
     let frame = proposal_frame_refusal(bytes, header);
-    // The answer if the header is refused; if not, lists of zeros to fill.
-    let blank = refused_proposal(frame);
     if frame.number != 0 {
-        return blank;
+        return refused_numbers(frame);
     }
-    let mut source = blank.source;
-    let mut sink = blank.sink;
-    let mut delay = blank.delay;
-    let refusal = proposal_records(bytes, header, tasks, &mut source, &mut sink, &mut delay);
+    let refusal = proposal_records(bytes, header, tasks, source, sink, delay);
     if refusal.number != 0 {
-        return refused_proposal(refusal);
+        clear_bytes(source);
+        clear_bytes(sink);
+        clear_bytes(delay);
+        return refused_numbers(refusal);
     }
-    ProposalReading {
+    ProposalNumbers {
         refusal,
         edges: header.edges,
+    }
+}
+
+// The same in one struct.
+pub fn read_proposal(bytes: &[u8], tasks: usize) -> ProposalReading
+    ensures { λ r. ⌜ r ≡ proposalReading tasks (now (bytes .entry)) ⌝ }
+{
+    let mut source: [u8; 256] = [0; 256];
+    let mut sink: [u8; 256] = [0; 256];
+    let mut delay: [u8; 256] = [0; 256];
+    let numbers = read_proposal_into(bytes, tasks, &mut source, &mut sink, &mut delay);
+    let refusal = numbers.refusal;
+    ProposalReading {
+        refusal,
+        edges: numbers.edges,
         source,
         sink,
         delay,

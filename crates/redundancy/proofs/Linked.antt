@@ -5,13 +5,13 @@ use mathlib.Core.Logic.{_⊎_, inl, inr, _≢_}
 use mathlib.Core.List.{List}
 use Prim.Native.Nat.{ℕ, _+_, _≤_, _<_}
 use native.Mathlib.Omega.{arith}
-use lib.ListN.{length, getD, set, length-set}
+use lib.ListN.{length, getD, set, replicate, length-set, length-replicate, getD-replicate}
 use lib.Seq.{getD-set-same, getD-set-other}
-use Rattle.model.specs.Theorems.{Way}
 use Rattle.model.proofs.Basics.{order}
-use Rattle.records.specs.Columns.{heldEdge, edgesOf}
+use Rattle.model.proofs.Tests.{decided, eqb-decides}
+use Rattle.records.specs.Columns.{heldEdge}
 use Rattle.records.proofs.Edges.{edge-in}
-use Rattle.redundancy.specs.Redundancy.{Tabled, NextOut, Chained}
+use Rattle.redundancy.specs.Redundancy.{Tabled, NextOut, Chained, WayFor}
 
 -- Each end of an edge is a task.
 pub ends-below :
@@ -22,14 +22,14 @@ ends-below {n} {source} {sink} {delay} tabled j l = tabled .fit .ends (heldEdge 
 -- ── Making the chains ──
 
 -- no edge yet
-pub chained-none : {source head link : List ℕ} → length source ≤ 320 → length head ≡ 64 → length link ≡ 320 →
-    ((s : ℕ) → s < 64 → getD head s 0 ≡ length source) → Chained source (length source) head link
-chained-none {source} few heads links ended = record {
-  heads = heads;
+pub chained-none : {source head link : List ℕ} → length source ≤ 320 → head ≡ replicate 64 (length source) → length link ≡ 320 →
+    Chained source (length source) head link
+chained-none {source} few ended links = record {
+  heads = ap length ended ∙ length-replicate {A = ℕ} 64 (length source);
   links = links;
   few = few;
   starts = λ s l.
-      let is = ended s l in
+      let is = ap (λ (xs : List ℕ). getD xs s 0) ended ∙ getD-replicate {A = ℕ} 64 s (length source) 0 l in
       record {
         onward = omega arith;
         inside = omega arith;
@@ -110,21 +110,50 @@ module _
             (subst (λ (p : ℕ). NextOut source (getD source j 0) p (getD head s 0)) next
             (subst (λ (t : ℕ). NextOut source t from (getD head s 0)) is (done .starts s small))))
 
+-- The numbers of edges in the chains of 64 tasks, of those from a place on: at most so many as there are.
+pub record Degrees (edges from : ℕ) (degree : List ℕ) : Type 0 where
+  pub size : length degree ≡ 64
+  pub few : (s : ℕ) → s < 64 → getD degree s 0 + from ≤ edges
+
+pub degrees-none : {edges : ℕ} {degree : List ℕ} → degree ≡ replicate 64 0 → Degrees edges edges degree
+degrees-none none = record {
+  size = ap length none ∙ length-replicate {A = ℕ} 64 0;
+  few = λ s l. let is = ap (λ (xs : List ℕ). getD xs s 0) none ∙ getD-replicate {A = ℕ} 64 s 0 0 l in omega arith;
+}
+
+pub degrees-more : {edges from : ℕ} {degree : List ℕ} → Degrees edges from degree → (j s : ℕ) → from ≡ j + 1 → s < 64 →
+    Degrees edges j (set degree s (getD degree s 0 + 1))
+degrees-more {edges} {from} {degree} done j s next small = record {
+  size = length-set degree s (getD degree s 0 + 1) ∙ done .size;
+  few = λ t l. go t l (decided (eqb-decides t s));
+}
+  where
+    go : (t : ℕ) → t < 64 → (t ≡ s) ⊎ (t ≡ s → ⊥) → getD (set degree s (getD degree s 0 + 1)) t 0 + j ≤ edges
+    go t l (inl same) =
+        let there : s < length degree = let many = done .size in omega arith in
+        let is : getD (set degree s (getD degree s 0 + 1)) t 0 ≡ getD degree s 0 + 1 =
+        ap (λ (u : ℕ). getD (set degree s (getD degree s 0 + 1)) u 0) same ∙ getD-set-same degree s (getD degree s 0 + 1) 0 there in
+        let before = done .few s small in
+        omega arith
+    go t l (inr other) =
+        let is = getD-set-other degree s t (getD degree s 0 + 1) 0 other in
+        let before = done .few t l in
+        omega arith
+
 -- ── Along a chain ──
 
 -- the edge at place k is no other way for the one at a place
 abbrev pub NoWay : List ℕ → List ℕ → List ℕ → ℕ → ℕ → Type 0
-NoWay source sink delay own k =
-    k ≢ own → Way (edgesOf source sink delay) (heldEdge source sink delay own) (heldEdge source sink delay k) → ⊥
+NoWay source sink delay own k = k ≢ own → WayFor source sink delay own k → ⊥
 
 module _ (source sink delay : List ℕ) (own : ℕ) where
   -- an edge out of another source is none
-  elsewhere : (k : ℕ) → (getD source k 0 ≡ getD source own 0 → ⊥) → NoWay source sink delay own k
+  pub elsewhere : (k : ℕ) → (getD source k 0 ≡ getD source own 0 → ⊥) → WayFor source sink delay own k → ⊥
   unfolding heldEdge
-  elsewhere k apart other way = apart (way .same-source)
+  elsewhere k apart way = apart (way .same-source)
 
   pub none-yet : {at : ℕ} → NextOut source (getD source own 0) 0 at → (k : ℕ) → k < at → NoWay source sink delay own k
-  none-yet out k below = elsewhere k (out .none-before k (omega arith) below)
+  none-yet out k below other = elsewhere k (out .none-before k (omega arith) below)
 
   pub none-more : {j at : ℕ} → ((k : ℕ) → k < j → NoWay source sink delay own k) → NoWay source sink delay own j →
       NextOut source (getD source own 0) (j + 1) at → (k : ℕ) → k < at → NoWay source sink delay own k
@@ -132,5 +161,5 @@ module _ (source sink delay : List ℕ) (own : ℕ) where
     where
       go : (j ≤ k) ⊎ (k < j) → (j + 1 ≤ k) ⊎ (k < j + 1) → NoWay source sink delay own k
       go (inr before) after = earlier k before
-      go (inl from) (inl later) = elsewhere k (out .none-before k later below)
+      go (inl from) (inl later) = λ other. elsewhere k (out .none-before k later below)
       go (inl from) (inr last) = let same : j ≡ k = omega arith in subst (NoWay source sink delay own) same here

@@ -7,6 +7,7 @@ use mathlib.Core.List.{List, [], _∷_, _++_, List·Memᴰ, List·Memᴰ·head a
 use Prim.Native.Nat.{ℕ, zero, suc, _+_, _-_, _≤_, _<_}
 use native.Mathlib.Nat.{not-suc-le-zero}
 use native.Mathlib.Omega.{arith}
+use lib.Dec.{leb, leb→le, le→leb, not-T}
 use lib.ListN.{length, getD}
 use Rattle.model.specs.Lists.{without}
 use Rattle.model.specs.Tasks.{Edge, _∈_, noEdge}
@@ -15,14 +16,14 @@ use Rattle.model.specs.Graph.{Graph, count, edges}
 use Rattle.model.specs.Paths.{edgesWithout, syncAt}
 use Rattle.model.specs.Compute.{isRedundant}
 use Rattle.model.specs.Theorems.{OtherWay, Way}
-use Rattle.model.proofs.Basics.{order, member-place, place-member}
+use Rattle.model.proofs.Basics.{order, is-true, is-false, member-place, place-member}
 use Rattle.model.proofs.Graphs.{without-cases}
 use Rattle.model.proofs.Tests.{decides-yes, decides-no}
 use Rattle.model.proofs.Theorems.{redundant-is, redundant-by-table}
 use Rattle.records.specs.Columns.{heldEdge, edgesOf}
 use Rattle.records.proofs.Ordered.{processor-edges-count, edges-count, processor-place, sync-place}
 use Rattle.records.proofs.Edges.{edges-length, edge-at}
-use Rattle.redundancy.specs.Redundancy.{HeldGraph}
+use Rattle.redundancy.specs.Redundancy.{HeldGraph, WayFor, Tells}
 
 -- ── The places of the other edges ──
 
@@ -83,9 +84,6 @@ module _ (g : Graph) where
 -- ── Redundant edges ──
 
 module _ (g : Graph) (n : ℕ) (source sink delay : List ℕ) (held : HeldGraph g n (edgesOf source sink delay)) (i own : ℕ) (is : own ≡ n + i) where
-  abbrev held-way : ℕ → Type 0
-  held-way j = Way (edgesOf source sink delay) (heldEdge source sink delay own) (heldEdge source sink delay j)
-
   as-many : length (edges g) ≡ length source
   as-many = ap (λ (es : List Edge). length es) (held .held) ∙ edges-length source sink delay
 
@@ -102,7 +100,7 @@ module _ (g : Graph) (n : ℕ) (source sink delay : List ℕ) (held : HeldGraph 
   own-below : own < length source → i < length (g .syncs)
   own-below l = let many = edges-count g in let same = as-many in let at = place in omega arith
 
-  pub other-way-found : own < length source → (j : ℕ) → j < length source → j ≢ own → held-way j → isRedundant g i ≡ true
+  pub other-way-found : own < length source → (j : ℕ) → j < length source → j ≢ own → WayFor source sink delay own j → isRedundant g i ≡ true
   other-way-found below j l other way =
       decides-yes (redundant-is g (held .ends) i)
       ((redundant-by-table g (held .ends) (held .no-zero-cycle) i (own-below below)) .1 other-way)
@@ -120,7 +118,7 @@ module _ (g : Graph) (n : ℕ) (source sink delay : List ℕ) (held : HeldGraph 
         whole,
       )
 
-  pub no-other-way : own < length source → ((j : ℕ) → j < length source → j ≢ own → held-way j → ⊥) → isRedundant g i ≡ false
+  pub no-other-way : own < length source → ((j : ℕ) → j < length source → j ≢ own → WayFor source sink delay own j → ⊥) → isRedundant g i ≡ false
   no-other-way below none =
       decides-no (redundant-is g (held .ends) i)
       (λ redundant.
@@ -131,6 +129,18 @@ module _ (g : Graph) (n : ℕ) (source sink delay : List ℕ) (held : HeldGraph 
       (subst (λ (f : Edge). Way (edgesOf source sink delay) (heldEdge source sink delay own) f) (sym (edge-is (at .0) l ∙ at .3))
       (subst (λ (e : Edge). Way (edgesOf source sink delay) e (way .0)) (sym (own-is below))
       (subst (λ (es : List Edge). Way es (syncAt g i) (way .0)) (held .held) (way .2)))))
+
+  -- a number that tells whether the edge has another way
+  pub told : own < length source → (number : ℕ) → Tells source sink delay own number → leb number (getD delay own 0) ≡ isRedundant g i
+  told below number tells = go (order number (getD delay own 0))
+    where
+      go : (number ≤ getD delay own 0) ⊎ (getD delay own 0 < number) → leb number (getD delay own 0) ≡ isRedundant g i
+      go (inl l) =
+          let way = tells .other l in
+          is-true (leb number (getD delay own 0)) (le→leb number (getD delay own 0) l) ∙ sym (other-way-found below (way .0) (way .1) (way .2) (way .3))
+      go (inr l) =
+          is-false (leb number (getD delay own 0)) (not-T (leb number (getD delay own 0)) (λ t. let k = leb→le number (getD delay own 0) t in omega arith)) ∙
+          sym (no-other-way below (tells .none l))
 
   -- a place past the list's end is no edge's
   pub past-end : length source ≤ own → isRedundant g i ≡ false

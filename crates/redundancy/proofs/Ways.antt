@@ -1,20 +1,28 @@
 -- An edge f out of the source of an edge e is another way for e exactly if its delay and the table's from its sink on, or nothing where its sink is
 -- that of e, add up to at most the delay of e: the table's entries are least delays, and none counts more than every delay.
-use mathlib.Core.Path.{_≡_, _∙_}
+use mathlib.Core.Path.{_≡_, sym, ap, _∙_, subst}
 use mathlib.Core.Logic.{_⊎_, inl, inr, _≢_}
 use mathlib.Core.List.{List}
 use mathlib.Core.Option.{Option, some}
 use Prim.Native.Nat.{ℕ, _+_, _*_, _≤_}
 use native.Mathlib.Omega.{arith}
 use lib.Dec.{leb, leb→le, le→leb}
-use lib.ListN.{getD}
+use lib.ListN.{length, getD}
 use Rattle.model.specs.Tasks.{Edge, _∈_}
 use Rattle.model.specs.Paths.{Least, smallest, no-path}
 use Rattle.model.specs.Theorems.{Decides, Way}
+use Rattle.model.proofs.Walks.{path-append}
 use Rattle.model.proofs.Tests.{decides-iff}
 use Rattle.model.proofs.Theorems.{least-delay-is}
+use Rattle.records.specs.Columns.{edgesOf}
 use Rattle.delays.specs.Delays.{entry, delayTable, Fit}
-use Rattle.delays.proofs.Table.{table-at}
+use Rattle.delays.proofs.Table.{table-length, table-at}
+use Rattle.redundancy.specs.Redundancy.{Tabled}
+
+-- The table has an entry for every two tasks.
+pub entries : {n : ℕ} {source sink delay table : List ℕ} → Tabled n source sink delay table → length table ≡ n * n
+entries {n} {source} {sink} {delay} tabled =
+    ap (λ (xs : List ℕ). length xs) (tabled .least) ∙ table-length n (edgesOf source sink delay)
 
 -- ── Another way ──
 
@@ -63,3 +71,28 @@ module _ {n : ℕ} {es : List Edge} (fit : Fit n es) (e f : Edge) (in-list : e �
   way-decided m (inr h) =
       by-table (least-delay-is n es (fit .ends) (f .sink) (e .sink)) (h .0)
       (h .1 ∙ table-at n es (f .sink) (e .sink) (fit .ends f m .1) (fit .ends e in-list .1))
+
+-- ── A way for a way ──
+
+-- A way for an edge that is itself a way for e is one for e too: the least delays from sink to sink make a path.
+pub way-for-way : {n : ℕ} {es : List Edge} → Fit n es → (e f g : Edge) → Way es e f → Way es f g → Way es e g
+way-for-way {n} {es} fit e f g way over = record {
+  same-source = over .same-source ∙ way .same-source;
+  within = go (way .within) (over .within);
+}
+  where
+    shorter : {o : Option ℕ} {x y : ℕ} → Least es (g .sink) (e .sink) o → Least es (g .sink) (f .sink) (some x) → Least es (f .sink) (e .sink) (some y) →
+        g .delay + x ≤ f .delay → f .delay + y ≤ e .delay → (d : ℕ) × Least es (g .sink) (e .sink) (some d) × (g .delay + d ≤ e .delay)
+    shorter (smallest {d = d} path least) (smallest {d = x} first above) (smallest {d = y} second above-too) l k =
+        let most = least (x + y) (path-append first second) in (d, smallest path least, omega arith)
+    shorter (no-path none) (smallest {d = x} first above) (smallest {d = y} second above-too) l k = absurd (none (x + y) (path-append first second))
+
+    go : ((f .sink ≡ e .sink) × (f .delay ≤ e .delay)) ⊎ ((d : ℕ) × Least es (f .sink) (e .sink) (some d) × (f .delay + d ≤ e .delay)) →
+        ((g .sink ≡ f .sink) × (g .delay ≤ f .delay)) ⊎ ((d : ℕ) × Least es (g .sink) (f .sink) (some d) × (g .delay + d ≤ f .delay)) →
+        ((g .sink ≡ e .sink) × (g .delay ≤ e .delay)) ⊎ ((d : ℕ) × Least es (g .sink) (e .sink) (some d) × (g .delay + d ≤ e .delay))
+    go (inl h) (inl k) = let a = h .1 in let b = k .1 in inl (k .0 ∙ h .0, omega arith)
+    go (inl h) (inr k) =
+        let a = h .1 in let b = k .2 in inr (k .0, subst (λ (t : ℕ). Least es (g .sink) t (some (k .0))) (h .0) (k .1), omega arith)
+    go (inr h) (inl k) =
+        let a = h .2 in let b = k .1 in inr (h .0, subst (λ (t : ℕ). Least es t (e .sink) (some (h .0))) (sym (k .0)) (h .1), omega arith)
+    go (inr h) (inr k) = inr (shorter (least-delay-is n es (fit .ends) (g .sink) (e .sink)) (k .1) (h .1) (k .2) (h .2))

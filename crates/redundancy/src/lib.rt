@@ -1,8 +1,9 @@
-// Which synchronization edges are redundant: one table of least delays serves every edge, and only the edges out of its source are tried.
+// Which synchronization edges are redundant: one table of least delays serves every edge, and only the edges out of its source are tried. Where many
+// edges leave one task, they are gone through once for all sinks.
 ghost use mathlib.Core.Path.{_≡_};
 ghost use mathlib.Core.Logic.{_⊎_, _≢_};
 ghost use Prim.Native.Nat.{ℕ, _+_, _*_, _≤_, _<_};
-ghost use lib.ListN.{length, getD};
+ghost use lib.ListN.{length, getD, replicate};
 ghost use Rattle.model.specs.Lists.{counted};
 ghost use Rattle.model.specs.Graph.{Graph};
 ghost use Rattle.model.specs.Compute.{isRedundant};
@@ -10,32 +11,29 @@ ghost use Rattle.model.specs.Theorems.{Decides, Way};
 ghost use Rattle.records.specs.Columns.{heldEdge, edgesOf};
 ghost use Rattle.delays.specs.Delays.{delayTable, Fit};
 ghost use Rattle.marks.specs.Marks.{number, marksOf};
-ghost use Rattle.redundancy.specs.Redundancy.{HeldGraph, Tabled, Chained};
+ghost use Rattle.redundancy.specs.Redundancy.{HeldGraph, Tabled, Chained, EdgeTaken, RowTaken, Crowds};
 use marks::Marks;
+use sweeps::greater;
+use sweeps::lesser;
 
-// Room for chains of edges by source: for each task the first edge out of it, for each edge the next one out of its source.
-struct Chains {
-    head: [u16; 64],
-    link: [u16; 320],
-}
+// No path: above every delay of an edge, and so small that the sum with one fits 16 bits.
+const FAR: u16 = 32767;
 
-// Chains without an edge: each is at its end.
-fn no_chains(end: u16) -> Chains
-    ensures sizes { λ r. ⌜ (length (r .head) ≡ 64) × (length (r .link) ≡ 320) ⌝ }
-    ensures ended { λ r. ⌜ ((s : ℕ) → s < 64 → getD (r .head) s 0 ≡ end) ⌝ }
-{
-    Chains {
-        head: [end; 64],
-        link: [end; 320],
-    }
-}
+// So many edges out of a task that going through them for all sinks at once takes no longer than trying each against the others.
+const MANY: u16 = 24;
+
+// Rows of second least delays, as many as tasks that 320 edges can crowd, and entries in each.
+const ROWS: usize = 13;
+
+const WIDTH: usize = 64;
 
 // Chains the edges, from the last to the first: each goes before those out of its source that are in a chain. The number of edges ends a chain.
-fn chain(source: &[u8], head: &mut [u16], link: &mut [u16])
-    requires { ⌜ (length (now source) ≤ 320) × (length (now head) ≡ 64) × (length (now link) ≡ 320) ⌝ }
+// Counts the edges in each.
+fn chain<'a>(source: &[u8], head: &'a mut [u16], link: &'a mut [u16], degree: &'a mut [u16])
+    requires { ⌜ (length (now source) ≤ 320) × (now head ≡ replicate 64 (length (now source))) × (length (now link) ≡ 320) × (now degree ≡ replicate 64 0) ⌝ }
     requires { ⌜ ((j : ℕ) → j < length (now source) → getD (now source) j 0 < 64) ⌝ }
-    requires { ⌜ ((s : ℕ) → s < 64 → getD (now head) s 0 ≡ length (now source)) ⌝ }
     ensures { λ _. ⌜ Chained (now (source .entry)) 0 (now (head .exit)) (now (link .exit)) ⌝ }
+    ensures { λ _. ⌜ length (now (degree .exit)) ≡ 64 ⌝ }
 {
     let mut from = source.len();
     while from > 0 {
@@ -43,7 +41,21 @@ fn chain(source: &[u8], head: &mut [u16], link: &mut [u16])
         let s = source[from] as usize;
         link[from] = head[s];
         head[s] = from as u16;
+        degree[s] += 1;
     }
+}
+
+// The largest number of edges.
+fn most(degree: &[u16]) -> u16
+    requires { ⌜ length (now degree) ≡ 64 ⌝ }
+{
+    let mut found = 0;
+    let mut s = 0;
+    while s < WIDTH {
+        found = greater(found, degree[s]);
+        s += 1;
+    }
+    found
 }
 
 // The delay from `next` on to `to`: 0 where they are the same task, otherwise the table's.
@@ -105,7 +117,137 @@ fn has_other_way<'a, 'b>(
     false
 }
 
-// 1 if edge `own` is there and redundant, otherwise 0.
+// Takes an edge, which leads to task `next` with a delay, into two rows: for each task the least and the second least of the delays of ways to it, each
+// way an edge with a least delay from its sink on.
+fn take_edge<'a>(
+    table: &[u16],
+    tasks: usize,
+    next: usize,
+    way: u16,
+    at: usize,
+    least: &'a mut [u16],
+    seconds: &'a mut [u16],
+)
+    requires { ⌜ (tasks ≤ 64) × (next < tasks) × (length (now table) ≡ tasks * tasks) × (way ≤ 255) ⌝ }
+    requires { ⌜ (length (now least) ≡ 64) × (at + 64 ≤ length (now seconds)) × (length (now seconds) ≡ 832) ⌝ }
+    ensures { λ _. ⌜ EdgeTaken tasks (now (table .entry)) next way at (now (least .entry)) (now (seconds .entry)) (now (least .exit)) (now (seconds .exit)) ⌝ }
+{
+    let start = next * tasks;
+    let first = least[next];
+    let second = seconds[at + next];
+    let mut b = 0;
+    while b < tasks {
+        let sum = way + lesser(table[start + b], FAR);
+        seconds[at + b] = lesser(seconds[at + b], greater(least[b], sum));
+        least[b] = lesser(least[b], sum);
+        b += 1;
+    }
+    seconds[at + next] = lesser(second, greater(first, way));
+    least[next] = lesser(first, way);
+}
+
+// Takes the edges out of a task into a row of seconds. An edge is left out if two of them are ways for it: wherever it leads, they do, and no later.
+fn take_row<'a, 'b>(
+    source: &'a [u8],
+    sink: &'a [u8],
+    delay: &'a [u8],
+    table: &'a [u16],
+    tasks: usize,
+    head: &'b [u16],
+    link: &'b [u16],
+    s: usize,
+    at: usize,
+    seconds: &mut [u16],
+)
+    requires { ⌜ (s < 64) × (at + 64 ≤ length (now seconds)) × (length (now seconds) ≡ 832) × ((b : ℕ) → b < 64 → getD (now seconds) (at + b) 0 ≡ 32767) ⌝ }
+    requires { ⌜ Tabled tasks (now source) (now sink) (now delay) (now table) ⌝ }
+    requires { ⌜ Chained (now source) 0 (now head) (now link) ⌝ }
+    ensures { λ _. ⌜ RowTaken (now (source .entry)) (now (sink .entry)) (now (delay .entry)) s at (now (seconds .entry)) (now (seconds .exit)) ⌝ }
+{
+    let mut least: [u16; 64] = [FAR; 64];
+    let mut i = head[s] as usize;
+    while i < source.len() {
+        let next = sink[i] as usize;
+        let way = delay[i] as u16;
+        if way < seconds[at + next] {
+            take_edge(table, tasks, next, way, at, &mut least, seconds);
+        }
+        i = link[i] as usize;
+    }
+}
+
+// Gives each task with many edges out of it a row of seconds, as far as there are rows.
+fn take_crowds<'a, 'b, 'c>(
+    source: &'a [u8],
+    sink: &'a [u8],
+    delay: &'a [u8],
+    table: &'a [u16],
+    tasks: usize,
+    head: &'b [u16],
+    link: &'b [u16],
+    degree: &'b [u16],
+    rows: &'c mut [u8],
+    seconds: &'c mut [u16],
+)
+    requires { ⌜ (length (now degree) ≡ 64) × (now rows ≡ replicate 64 13) × (now seconds ≡ replicate 832 32767) ⌝ }
+    requires { ⌜ Tabled tasks (now source) (now sink) (now delay) (now table) ⌝ }
+    requires { ⌜ Chained (now source) 0 (now head) (now link) ⌝ }
+    ensures { λ _. ⌜ Crowds (now (source .entry)) (now (sink .entry)) (now (delay .entry)) (now (rows .exit)) (now (seconds .exit)) ⌝ }
+{
+    let mut used = 0;
+    let mut s = 0;
+    while s < tasks {
+        if degree[s] >= MANY {
+            if used < ROWS {
+                take_row(
+                    source,
+                    sink,
+                    delay,
+                    table,
+                    tasks,
+                    head,
+                    link,
+                    s,
+                    used * WIDTH,
+                    seconds,
+                );
+                rows[s] = used as u8;
+                used += 1;
+            }
+        }
+        s += 1;
+    }
+}
+
+// Whether edge `own` is redundant: by the row of its source if it has one, otherwise by the chain. A list shorter than a row holds none.
+fn is_redundant<'a, 'b>(
+    source: &'a [u8],
+    sink: &'a [u8],
+    delay: &'a [u8],
+    table: &'a [u16],
+    tasks: usize,
+    head: &'b [u16],
+    link: &'b [u16],
+    rows: &'b [u8],
+    seconds: &'b [u16],
+    own: usize,
+) -> bool
+    requires { ⌜ own < length (now source) ⌝ }
+    requires { ⌜ Tabled tasks (now source) (now sink) (now delay) (now table) ⌝ }
+    requires { ⌜ Chained (now source) 0 (now head) (now link) ⌝ }
+    requires { ⌜ Crowds (now source) (now sink) (now delay) (now rows) (now seconds) ⌝ }
+    ensures { λ r. ⌜ ((g : Graph) → HeldGraph g tasks (edgesOf (now (source .entry)) (now (sink .entry)) (now (delay .entry))) → (i : ℕ) → own ≡ tasks + i → r ≡ isRedundant g i) ⌝ }
+{
+    if seconds.len() >= WIDTH {
+        let row = rows[source[own] as usize] as usize;
+        if row < ROWS {
+            return seconds[row * WIDTH + sink[own] as usize] <= delay[own] as u16;
+        }
+    }
+    has_other_way(source, sink, delay, table, tasks, head, link, own)
+}
+
+// 1 if edge `own` is redundant, otherwise 0.
 fn mark<'a, 'b>(
     source: &'a [u8],
     sink: &'a [u8],
@@ -114,22 +256,36 @@ fn mark<'a, 'b>(
     tasks: usize,
     head: &'b [u16],
     link: &'b [u16],
+    rows: &'b [u8],
+    seconds: &'b [u16],
     own: usize,
 ) -> u64
+    requires { ⌜ own < length (now source) ⌝ }
     requires { ⌜ Tabled tasks (now source) (now sink) (now delay) (now table) ⌝ }
     requires { ⌜ Chained (now source) 0 (now head) (now link) ⌝ }
+    requires { ⌜ Crowds (now source) (now sink) (now delay) (now rows) (now seconds) ⌝ }
     ensures { λ r. ⌜ r ≤ 1 ⌝ }
     ensures { λ r. ⌜ ((g : Graph) → HeldGraph g tasks (edgesOf (now (source .entry)) (now (sink .entry)) (now (delay .entry))) → (i : ℕ) → own ≡ tasks + i → r ≡ counted (isRedundant g i) 1) ⌝ }
 {
-    if own < source.len() {
-        if has_other_way(source, sink, delay, table, tasks, head, link, own) {
-            return 1;
-        }
+    if is_redundant(
+        source,
+        sink,
+        delay,
+        table,
+        tasks,
+        head,
+        link,
+        rows,
+        seconds,
+        own,
+    ) {
+        return 1;
     }
     0
 }
 
 // 64 marks in a word: that of the file's edge number `first`, counted from 0, is the most significant bit, those after it follow.
+// Past the last edge there are zeros.
 fn mark_word<'a, 'b>(
     source: &'a [u8],
     sink: &'a [u8],
@@ -138,24 +294,45 @@ fn mark_word<'a, 'b>(
     tasks: usize,
     head: &'b [u16],
     link: &'b [u16],
+    rows: &'b [u8],
+    seconds: &'b [u16],
     first: usize,
 ) -> u64
     requires { ⌜ first ≤ 192 ⌝ }
     requires { ⌜ Tabled tasks (now source) (now sink) (now delay) (now table) ⌝ }
     requires { ⌜ Chained (now source) 0 (now head) (now link) ⌝ }
+    requires { ⌜ Crowds (now source) (now sink) (now delay) (now rows) (now seconds) ⌝ }
     ensures { λ r. ⌜ ((g : Graph) → HeldGraph g tasks (edgesOf (now (source .entry)) (now (sink .entry)) (now (delay .entry))) → r ≡ number 64 (λ j. isRedundant g (first + j))) ⌝ }
 {
     let start = tasks + first;
+    if start >= source.len() {
+        return 0;
+    }
     let mut word = 0;
     let mut j = 0;
     while j < 64 {
-        word = word * 2 + mark(source, sink, delay, table, tasks, head, link, start + j);
+        if start + j >= source.len() {
+            return word << (64 - j);
+        }
+        word = word * 2
+            + mark(
+                source,
+                sink,
+                delay,
+                table,
+                tasks,
+                head,
+                link,
+                rows,
+                seconds,
+                start + j,
+            );
         j += 1;
     }
     word
 }
 
-// The marks of the redundant edges, by chains of the edges.
+// The marks of the redundant edges, by chains of the edges and rows of the crowded tasks.
 fn chained_marks<'a, 'b>(
     source: &'a [u8],
     sink: &'a [u8],
@@ -164,15 +341,62 @@ fn chained_marks<'a, 'b>(
     tasks: usize,
     head: &'b [u16],
     link: &'b [u16],
+    rows: &'b [u8],
+    seconds: &'b [u16],
 ) -> Marks
     requires { ⌜ Tabled tasks (now source) (now sink) (now delay) (now table) ⌝ }
     requires { ⌜ Chained (now source) 0 (now head) (now link) ⌝ }
+    requires { ⌜ Crowds (now source) (now sink) (now delay) (now rows) (now seconds) ⌝ }
     ensures { λ r. ⌜ ((g : Graph) → HeldGraph g tasks (edgesOf (now (source .entry)) (now (sink .entry)) (now (delay .entry))) → r ≡ marksOf (isRedundant g)) ⌝ }
 {
-    let first = mark_word(source, sink, delay, table, tasks, head, link, 0);
-    let second = mark_word(source, sink, delay, table, tasks, head, link, 64);
-    let third = mark_word(source, sink, delay, table, tasks, head, link, 128);
-    let fourth = mark_word(source, sink, delay, table, tasks, head, link, 192);
+    let first = mark_word(
+        source,
+        sink,
+        delay,
+        table,
+        tasks,
+        head,
+        link,
+        rows,
+        seconds,
+        0,
+    );
+    let second = mark_word(
+        source,
+        sink,
+        delay,
+        table,
+        tasks,
+        head,
+        link,
+        rows,
+        seconds,
+        64,
+    );
+    let third = mark_word(
+        source,
+        sink,
+        delay,
+        table,
+        tasks,
+        head,
+        link,
+        rows,
+        seconds,
+        128,
+    );
+    let fourth = mark_word(
+        source,
+        sink,
+        delay,
+        table,
+        tasks,
+        head,
+        link,
+        rows,
+        seconds,
+        192,
+    );
     Marks {
         words: [first, second, third, fourth],
     }
@@ -192,9 +416,48 @@ pub fn redundant_marks<'a>(
     requires { ⌜ now table ≡ delayTable tasks (edgesOf (now source) (now sink) (now delay)) ⌝ }
     ensures { λ r. ⌜ ((g : Graph) → HeldGraph g tasks (edgesOf (now (source .entry)) (now (sink .entry)) (now (delay .entry))) → r ≡ marksOf (isRedundant g)) ⌝ }
 {
-    let empty = no_chains(source.len() as u16);
-    let mut head = empty.head;
-    let mut link = empty.link;
-    chain(source, &mut head, &mut link);
-    chained_marks(source, sink, delay, table, tasks, &head, &link)
+    let end = source.len() as u16;
+    let mut head: [u16; 64] = [end; 64];
+    let mut link: [u16; 320] = [0; 320];
+    let mut degree: [u16; 64] = [0; 64];
+    chain(source, &mut head, &mut link, &mut degree);
+    let mut rows: [u8; 64] = [13; 64];
+    if most(&degree) < MANY {
+        let none: [u16; 1] = [FAR; 1];
+        return chained_marks(
+            source,
+            sink,
+            delay,
+            table,
+            tasks,
+            &head,
+            &link,
+            &rows,
+            &none,
+        );
+    }
+    let mut seconds: [u16; 832] = [FAR; 832];
+    take_crowds(
+        source,
+        sink,
+        delay,
+        table,
+        tasks,
+        &head,
+        &link,
+        &degree,
+        &mut rows,
+        &mut seconds,
+    );
+    chained_marks(
+        source,
+        sink,
+        delay,
+        table,
+        tasks,
+        &head,
+        &link,
+        &rows,
+        &seconds,
+    )
 }

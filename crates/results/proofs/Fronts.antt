@@ -146,38 +146,35 @@ held-result held few = record {
   held = held-edges held;
 }
 
--- and the other way round
-pub result-front : {r : ResultEdges} {es : List Edge} → HeldResult r es → HeldFront 576 (r .count) (r .source) (r .sink) (r .delay) es
-unfolding heldEdge
-result-front {r} {es} held = record {
-  sources = front (λ e. e .source) (r .source) (held .source-room) (λ i. refl);
-  sinks = front (λ e. e .sink) (r .sink) (held .sink-room) (λ i. refl);
-  delays = front (λ e. e .delay) (r .delay) (held .delay-room) (λ i. refl);
-}
+-- Lists whose first entries make up edges hold them in their fronts.
+module _
+    {size count : ℕ} (source sink delay : List ℕ) {es : List Edge} (as-many : count ≡ length es) (few : count ≤ size)
+    (is : edgesOf (take count source) (take count sink) (take count delay) ≡ es)
   where
-    part-length : (list : List ℕ) → length list ≡ 576 → length (take (r .count) list) ≡ length es
-    part-length list room = length-take-le (r .count) list (subst (λ (n : ℕ). r .count ≤ n) (sym room) (held .few)) ∙ held .as-many
+    part-length : (list : List ℕ) → length list ≡ size → length (take count list) ≡ length es
+    part-length list room = length-take-le count list (subst (λ (n : ℕ). count ≤ n) (sym room) few) ∙ as-many
 
-    sources : List ℕ
-    sources = take (r .count) (r .source)
-
-    sinks : List ℕ
-    sinks = take (r .count) (r .sink)
-
-    delays : List ℕ
-    delays = take (r .count) (r .delay)
-
-    front : (part : Edge → ℕ) (list : List ℕ) → length list ≡ 576 →
-        ((i : ℕ) → getD (take (r .count) list) i 0 ≡ part (heldEdge sources sinks delays i)) → Front part es 576 (r .count) list
-    front part list room is = record {
-      as-many = held .as-many;
+    one-front : length source ≡ size → (part : Edge → ℕ) (list : List ℕ) → length list ≡ size →
+        ((i : ℕ) → getD (take count list) i 0 ≡ part (heldEdge (take count source) (take count sink) (take count delay) i)) → Front part es size count list
+    one-front sources part list room same = record {
+      as-many = as-many;
       room = room;
       column = record {
         as-many = part-length list room;
         same = λ i l.
-            is i ∙
+            same i ∙
             ap part
-            (sym (edge-at sources sinks delays i (subst (λ (n : ℕ). i < n) (sym (part-length (r .source) (held .source-room))) l)) ∙
-            ap (λ (xs : List Edge). getD xs i noEdge) (held .held));
+            (sym
+            (edge-at (take count source) (take count sink) (take count delay) i
+            (subst (λ (n : ℕ). i < n) (sym (part-length source sources)) l)) ∙
+            ap (λ (xs : List Edge). getD xs i noEdge) is);
       };
+    }
+
+    pub made-front : length source ≡ size → length sink ≡ size → length delay ≡ size → HeldFront size count source sink delay es
+    unfolding heldEdge
+    made-front sources sinks delays = record {
+      sources = one-front sources (λ e. e .source) source sources (λ i. refl);
+      sinks = one-front sources (λ e. e .sink) sink sinks (λ i. refl);
+      delays = one-front sources (λ e. e .delay) delay delays (λ i. refl);
     }

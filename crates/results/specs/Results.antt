@@ -20,7 +20,13 @@ cyclic n es = keep (onCycle n es) es
 unfoldable pub resultOf : ℕ → List Edge → List Edge → List Edge
 resultOf n es proposed = cyclic n es ++ proposed
 
--- Only for contracts inside: the fronts of three lists hold these edges.
+-- ── Only for contracts inside ──
+
+-- a result whose lists stand apart from their count
+abbrev pub resultFrom : ℕ → List ℕ → List ℕ → List ℕ → ResultEdges
+resultFrom count source sink delay = record { count = count; source = source; sink = sink; delay = delay }
+
+-- the fronts of three lists hold these edges
 pub record HeldResult (r : ResultEdges) (es : List Edge) : Type 0 where
   pub as-many : r .count ≡ length es
   pub few : r .count ≤ 576

@@ -9,7 +9,7 @@ ghost use Rattle.model.specs.Tasks.{Edge};
 ghost use Rattle.records.specs.Columns.{edgesOf, at};
 ghost use Rattle.delays.specs.Delays.{Fit};
 ghost use Rattle.reach.specs.Reach.{Reaches, Circled, ReachesOn};
-ghost use Rattle.results.specs.Results.{cyclic, resultOf, HeldResult};
+ghost use Rattle.results.specs.Results.{cyclic, resultOf, resultFrom, HeldResult};
 ghost use Rattle.results.specs.Fronts.{HeldFront};
 use reach::leads_to;
 use reach::paths_between_processors;
@@ -21,18 +21,6 @@ pub struct ResultEdges {
     pub source: [u8; 576],
     pub sink: [u8; 576],
     pub delay: [u8; 576],
-}
-
-// Lists to write into.
-fn blank_lists() -> ResultEdges
-    ensures { λ r. ⌜ (length (r .source) ≡ 576) × (length (r .sink) ≡ 576) × (length (r .delay) ≡ 576) ⌝ }
-{
-    ResultEdges {
-        count: 0,
-        source: [0; 576],
-        sink: [0; 576],
-        delay: [0; 576],
-    }
 }
 
 // Stores an edge at a place of three lists.
@@ -99,7 +87,7 @@ fn keep_cyclic_on<'a, 'b>(
 }
 
 // Stores edges behind the first `kept` edges of three lists.
-fn append<'a, 'b>(
+pub fn append<'a, 'b>(
     source: &'a [u8],
     sink: &'a [u8],
     delay: &'a [u8],
@@ -128,43 +116,9 @@ fn append<'a, 'b>(
     }
 }
 
-// Edges behind those that lists hold already.
-pub fn with_edges<'a>(
-    kept: ResultEdges,
-    source: &'a [u8],
-    sink: &'a [u8],
-    delay: &'a [u8],
-) -> ResultEdges
-    requires { ⌜ (length (now sink) ≡ length (now source)) × (length (now delay) ≡ length (now source)) ⌝ }
-    requires { ⌜ kept .count + length (now source) ≤ 576 ⌝ }
-    requires { ⌜ ((es : List Edge) × HeldResult kept es) ⌝ }
-    ensures { λ r. ⌜ ((es : List Edge) → HeldResult kept es → HeldResult r (es ++ edgesOf (now (source .entry)) (now (sink .entry)) (now (delay .entry)))) ⌝ }
-{
-    let before = kept.count as usize;
-    let mut to_source = kept.source;
-    let mut to_sink = kept.sink;
-    let mut to_delay = kept.delay;
-    append(
-        source,
-        sink,
-        delay,
-        before,
-        &mut to_source,
-        &mut to_sink,
-        &mut to_delay,
-    );
-    let all = before + source.len();
-    ResultEdges {
-        count: all as u32,
-        source: to_source,
-        sink: to_sink,
-        delay: to_delay,
-    }
-}
-
-// The edges of the result of proposed edges, from the edges that order a graph. Paths lead from each task to each one of its processor, as the processor
-// edges do, so paths between processors tell which edges lie on a cycle.
-pub fn result_edges_on<'a>(
+// The edges of the result of proposed edges, from the edges that order a graph, at the front of three lists, and how many. Paths lead from each task to
+// each one of its processor, as the processor edges do, so paths between processors tell which edges lie on a cycle.
+pub fn result_edges_into<'a, 'b>(
     source: &'a [u8],
     sink: &'a [u8],
     delay: &'a [u8],
@@ -172,45 +126,39 @@ pub fn result_edges_on<'a>(
     proposed_source: &'a [u8],
     proposed_sink: &'a [u8],
     proposed_delay: &'a [u8],
-) -> ResultEdges
+    to_source: &'b mut [u8],
+    to_sink: &'b mut [u8],
+    to_delay: &'b mut [u8],
+) -> usize
     requires { ⌜ (length (now sink) ≡ length (now source)) × (length (now delay) ≡ length (now source)) ⌝ }
     requires { ⌜ (length (now «proposed_sink») ≡ length (now «proposed_source»)) × (length (now «proposed_delay») ≡ length (now «proposed_source»)) ⌝ }
     requires { ⌜ (length (now source) ≤ 320) × (length (now «proposed_source») ≤ 256) ⌝ }
     requires { ⌜ ((v : ℕ) → v < length (now processor) → at (now processor) v < 16) ⌝ }
     requires { ⌜ Fit (length (now processor)) (edgesOf (now source) (now sink) (now delay)) ⌝ }
     requires { ⌜ Circled (length (now processor)) (edgesOf (now source) (now sink) (now delay)) (now processor) ⌝ }
-    ensures { λ r. ⌜ HeldResult r (resultOf (length (now (processor .entry))) (edgesOf (now (source .entry)) (now (sink .entry)) (now (delay .entry))) (edgesOf (now («proposed_source» .entry)) (now («proposed_sink» .entry)) (now («proposed_delay» .entry)))) ⌝ }
+    requires { ⌜ (length (now «to_source») ≡ 576) × (length (now «to_sink») ≡ 576) × (length (now «to_delay») ≡ 576) ⌝ }
+    ensures { λ r. ⌜ HeldResult (resultFrom r (now («to_source» .exit)) (now («to_sink» .exit)) (now («to_delay» .exit))) (resultOf (length (now (processor .entry))) (edgesOf (now (source .entry)) (now (sink .entry)) (now (delay .entry))) (edgesOf (now («proposed_source» .entry)) (now («proposed_sink» .entry)) (now («proposed_delay» .entry)))) ⌝ }
 {
     let reach = paths_between_processors(source, sink, processor);
     let words = reach.words;
-    let lists = blank_lists();
-    let mut to_source = lists.source;
-    let mut to_sink = lists.sink;
-    let mut to_delay = lists.delay;
     let kept = keep_cyclic_on(
         source,
         sink,
         delay,
         processor,
         &words,
-        &mut to_source,
-        &mut to_sink,
-        &mut to_delay,
+        to_source,
+        to_sink,
+        to_delay,
     );
     append(
         proposed_source,
         proposed_sink,
         proposed_delay,
         kept,
-        &mut to_source,
-        &mut to_sink,
-        &mut to_delay,
+        to_source,
+        to_sink,
+        to_delay,
     );
-    let count = kept + proposed_source.len();
-    ResultEdges {
-        count: count as u32,
-        source: to_source,
-        sink: to_sink,
-        delay: to_delay,
-    }
+    kept + proposed_source.len()
 }

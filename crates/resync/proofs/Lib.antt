@@ -1,5 +1,6 @@
 -- The proofs that other crates may cite.
 pub mod Checked
+pub mod Kept
 pub mod Results
 pub mod Given
 pub mod Written

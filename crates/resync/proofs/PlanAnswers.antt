@@ -9,6 +9,7 @@ use native.Mathlib.Omega.{arith}
 use lib.ListN.{length, take}
 use Rattle.model.specs.Lists.{tabulate}
 use Rattle.model.specs.Tasks.{Edge}
+use Rattle.model.specs.Compute.{latencyOf}
 use Rattle.model.specs.Plan.{planOf, planLatency}
 use Rattle.layout.specs.declared.EdgeRecord.{EdgeRecord}
 use Rattle.records.specs.Columns.{edgesOf}
@@ -29,7 +30,7 @@ use Rattle.resync.specs.declared.PlanAnswer.{PlanAnswer}
 use Rattle.resync.specs.Calls.{outcome, roomRefusal}
 use Rattle.resync.specs.Plan.{planRefusal, planAnswerOf, planAfter, plannedEdges}
 use Rattle.resync.proofs.Planned.{plan-few}
-use Rattle.resync.proofs.Checked.{room-there, same-room, refusal-given, reading-given, accepted, read-fronts}
+use Rattle.resync.proofs.Checked.{room-there, same-room, refusal-given, latency-given, reading-given, accepted, read-fronts}
 
 -- ── What is decided ──
 
@@ -127,6 +128,9 @@ module _ (s : List ℕ) (room : ℕ) where
 
       pub read-scheduled : Scheduled (r .reading) (graphOf s)
       read-scheduled = record { accepted = accepted s is before .1; graph-is = reading-given s is ∙ graph-given s (accepted s is before .0) }
+
+      pub read-latency : r .latency ≡ latencyOf (graphOf s)
+      read-latency = latency-given s is ∙ if-passed (acceptanceRefusal s .number) (latencyOf (graphOf s)) 0 (passed-before passed .0)
 
       pub answer-planned :
           {o : Outcome} {f : FoundPlan} → o ≡ outcome q → PlanAnswered (graphOf s) f →

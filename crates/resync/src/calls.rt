@@ -1,20 +1,26 @@
 // The calls on a graph. None asks anything of its caller; a refused one leaves the lent list as it was.
 ghost use mathlib.Core.Path.{_≡_};
 ghost use mathlib.Core.List.{[], _∷_};
+ghost use Prim.Native.Nat.{_*_, _≤_};
 ghost use lib.ListN.{length};
+ghost use Rattle.model.specs.Graph.{Graph};
+ghost use Rattle.model.specs.Compute.{isRedundant};
+ghost use Rattle.records.specs.Columns.{edgesOf};
+ghost use Rattle.delays.specs.Delays.{Fit};
 ghost use Rattle.files.specs.Refusals.{first};
-ghost use Rattle.marks.specs.Marks.{markAt, placesOf};
+ghost use Rattle.marks.specs.Marks.{markAt, marksOf, placesOf};
+ghost use Rattle.redundancy.specs.Redundancy.{HeldGraph};
 ghost use Rattle.resync.specs.Calls.{outcome, roomRefusal, turnsRefusal, figuresOf, delaysRefusal, delaysAfter, noMarks, redundantOf, timetableRefusal, timetableAfter};
 use crate::GraphFigures;
 use crate::Outcome;
 use crate::RedundantSet;
-use delays::blank_table;
 use files::Refusal;
 use marks::Marks;
 use marks::Places;
 use redundancy::redundant_marks;
-use schedule::accept;
+use schedule::accept_into;
 use starts::turns_into;
+use strongest::keep_strongest;
 use tables::least_table;
 
 const PASSED: Refusal = Refusal {
@@ -31,6 +37,9 @@ const TURNS_OUTSIDE: Refusal = Refusal {
     number: 17,
     place: 0,
 };
+
+// So many tasks that a table of 256 entries has room for the delays between them.
+const FEW: usize = 16;
 
 // No mark set.
 fn no_marks() -> Marks
@@ -81,7 +90,19 @@ fn check_turns(turns: usize) -> Refusal
 pub fn figures(graph: &[u8]) -> GraphFigures
     ensures { λ r. ⌜ r ≡ figuresOf (now (graph .entry)) ⌝ }
 {
-    let accepted = accept(graph);
+    let mut processor: [u8; 64] = [0; 64];
+    let mut time: [u16; 64] = [0; 64];
+    let mut source: [u8; 320] = [0; 320];
+    let mut sink: [u8; 320] = [0; 320];
+    let mut delay: [u8; 320] = [0; 320];
+    let accepted = accept_into(
+        graph,
+        &mut processor,
+        &mut time,
+        &mut source,
+        &mut sink,
+        &mut delay,
+    );
     let refusal = accepted.refusal;
     let outcome = told(refusal);
     if refusal.number != 0 {
@@ -92,11 +113,11 @@ pub fn figures(graph: &[u8]) -> GraphFigures
             latency: 0,
         };
     }
-    let reading = accepted.reading;
+    let numbers = accepted.numbers;
     GraphFigures {
         outcome,
-        tasks: reading.tasks,
-        edges: reading.edges,
+        tasks: numbers.tasks,
+        edges: numbers.edges,
         latency: accepted.latency,
     }
 }
@@ -106,26 +127,79 @@ pub fn least_delays(graph: &[u8], table: &mut [u16]) -> Outcome
     ensures outcome { λ r. ⌜ r ≡ outcome (delaysRefusal (now (graph .entry)) (length (now (table .entry)))) ⌝ }
     ensures table { λ _. ⌜ now (table .exit) ≡ delaysAfter (now (graph .entry)) (now (table .entry)) ⌝ }
 {
-    let accepted = accept(graph);
-    let reading = accepted.reading;
-    let tasks = reading.tasks as usize;
+    let mut processor: [u8; 64] = [0; 64];
+    let mut time: [u16; 64] = [0; 64];
+    let mut source: [u8; 320] = [0; 320];
+    let mut sink: [u8; 320] = [0; 320];
+    let mut delay: [u8; 320] = [0; 320];
+    let accepted = accept_into(
+        graph,
+        &mut processor,
+        &mut time,
+        &mut source,
+        &mut sink,
+        &mut delay,
+    );
+    let numbers = accepted.numbers;
+    let tasks = numbers.tasks as usize;
     let refusal = with_room(accepted.refusal, tasks * tasks, table.len());
     if refusal.number != 0 {
         return told(refusal);
     }
-    let end = tasks + reading.edges as usize;
-    let source = reading.source;
-    let sink = reading.sink;
-    let delay = reading.delay;
+    let end = tasks + numbers.edges as usize;
     least_table(&source[0..end], &sink[0..end], &delay[0..end], tasks, table);
     told(refusal)
+}
+
+// The marks of the redundant edges, by a table to write into.
+fn marks_by<'a>(
+    source: &'a [u8],
+    sink: &'a [u8],
+    delay: &'a [u8],
+    tasks: usize,
+    table: &mut [u16],
+) -> Marks
+    requires { ⌜ (length (now sink) ≡ length (now source)) × (length (now delay) ≡ length (now source)) ⌝ }
+    requires { ⌜ (tasks ≤ 64) × (length (now source) ≤ 320) × (tasks * tasks ≤ length (now table)) ⌝ }
+    requires { ⌜ Fit tasks (edgesOf (now source) (now sink) (now delay)) ⌝ }
+    ensures { λ r. ⌜ ((g : Graph) → HeldGraph g tasks (edgesOf (now (source .entry)) (now (sink .entry)) (now (delay .entry))) → r ≡ marksOf (isRedundant g)) ⌝ }
+{
+    least_table(source, sink, delay, tasks, table);
+    redundant_marks(source, sink, delay, &table[0..tasks * tasks], tasks)
+}
+
+// The same by a table no larger than so many tasks ask for.
+fn redundant_edges<'a>(source: &'a [u8], sink: &'a [u8], delay: &'a [u8], tasks: usize) -> Marks
+    requires { ⌜ (length (now sink) ≡ length (now source)) × (length (now delay) ≡ length (now source)) ⌝ }
+    requires { ⌜ (tasks ≤ 64) × (length (now source) ≤ 320) ⌝ }
+    requires { ⌜ Fit tasks (edgesOf (now source) (now sink) (now delay)) ⌝ }
+    ensures { λ r. ⌜ ((g : Graph) → HeldGraph g tasks (edgesOf (now (source .entry)) (now (sink .entry)) (now (delay .entry))) → r ≡ marksOf (isRedundant g)) ⌝ }
+{
+    if tasks <= FEW {
+        let mut small: [u16; 256] = [0; 256];
+        return marks_by(source, sink, delay, tasks, &mut small);
+    }
+    let mut table: [u16; 4096] = [0; 4096];
+    marks_by(source, sink, delay, tasks, &mut table)
 }
 
 // The marks of the redundant edges, edge 1 the most significant bit of the first word, and how many are set.
 pub fn redundant(graph: &[u8]) -> RedundantSet
     ensures { λ r. ⌜ r ≡ redundantOf (now (graph .entry)) ⌝ }
 {
-    let accepted = accept(graph);
+    let mut processor: [u8; 64] = [0; 64];
+    let mut time: [u16; 64] = [0; 64];
+    let mut source: [u8; 320] = [0; 320];
+    let mut sink: [u8; 320] = [0; 320];
+    let mut delay: [u8; 320] = [0; 320];
+    let accepted = accept_into(
+        graph,
+        &mut processor,
+        &mut time,
+        &mut source,
+        &mut sink,
+        &mut delay,
+    );
     let refusal = accepted.refusal;
     let outcome = told(refusal);
     if refusal.number != 0 {
@@ -136,28 +210,10 @@ pub fn redundant(graph: &[u8]) -> RedundantSet
             count: 0,
         };
     }
-    let reading = accepted.reading;
-    let tasks = reading.tasks as usize;
-    let end = tasks + reading.edges as usize;
-    let source = reading.source;
-    let sink = reading.sink;
-    let delay = reading.delay;
-    let blank = blank_table();
-    let mut table = blank.delay;
-    least_table(
-        &source[0..end],
-        &sink[0..end],
-        &delay[0..end],
-        tasks,
-        &mut table,
-    );
-    let marks = redundant_marks(
-        &source[0..end],
-        &sink[0..end],
-        &delay[0..end],
-        &table[0..tasks * tasks],
-        tasks,
-    );
+    let numbers = accepted.numbers;
+    let tasks = numbers.tasks as usize;
+    let end = tasks + numbers.edges as usize;
+    let marks = redundant_edges(&source[0..end], &sink[0..end], &delay[0..end], tasks);
     let count = marks::count(marks);
     RedundantSet {
         outcome,
@@ -182,22 +238,31 @@ pub fn timetable(graph: &[u8], turns: usize, starts: &mut [u32]) -> Outcome
     if outside.number != 0 {
         return told(outside);
     }
-    let accepted = accept(graph);
-    let reading = accepted.reading;
-    let tasks = reading.tasks as usize;
+    let mut processor: [u8; 64] = [0; 64];
+    let mut time: [u16; 64] = [0; 64];
+    let mut source: [u8; 320] = [0; 320];
+    let mut sink: [u8; 320] = [0; 320];
+    let mut delay: [u8; 320] = [0; 320];
+    let accepted = accept_into(
+        graph,
+        &mut processor,
+        &mut time,
+        &mut source,
+        &mut sink,
+        &mut delay,
+    );
+    let numbers = accepted.numbers;
+    let tasks = numbers.tasks as usize;
     let refusal = with_room(accepted.refusal, tasks * turns, starts.len());
     if refusal.number != 0 {
         return told(refusal);
     }
-    let end = tasks + reading.edges as usize;
-    let source = reading.source;
-    let sink = reading.sink;
-    let delay = reading.delay;
-    let time = reading.time;
+    let end = tasks + numbers.edges as usize;
+    let kept = keep_strongest(&processor, tasks, end, &mut source, &mut sink, &mut delay);
     turns_into(
-        &source[0..end],
-        &sink[0..end],
-        &delay[0..end],
+        &source[0..kept],
+        &sink[0..kept],
+        &delay[0..kept],
         &time[0..tasks],
         turns,
         starts,

@@ -40,7 +40,7 @@ fn decide(graph: &[u8], room: usize) -> Decided
             stage: none,
         };
     }
-    let plan = planned(reading);
+    let plan = planned(reading, accepted.latency);
     let stage = plan.stage;
     Decided {
         answer: PlanAnswer {

@@ -9,8 +9,8 @@ use crate::Outcome;
 use crate::ProposalVerdict;
 use crate::calls::told;
 use files::Refusal;
-use readings::read_proposal;
-use schedule::accept;
+use readings::read_proposal_into;
+use schedule::accept_into;
 use verdicts::Judgement;
 use verdicts::judge;
 
@@ -73,17 +73,49 @@ fn weighed(judged: Judgement, bound: u32) -> ProposalVerdict
 pub fn verdict(graph: &[u8], proposal: &[u8]) -> ProposalVerdict
     ensures { λ r. ⌜ VerdictAnswer (now (graph .entry)) (now (proposal .entry)) r ⌝ }
 {
-    let accepted = accept(graph);
+    let mut processor: [u8; 64] = [0; 64];
+    let mut time: [u16; 64] = [0; 64];
+    let mut source: [u8; 320] = [0; 320];
+    let mut sink: [u8; 320] = [0; 320];
+    let mut delay: [u8; 320] = [0; 320];
+    let accepted = accept_into(
+        graph,
+        &mut processor,
+        &mut time,
+        &mut source,
+        &mut sink,
+        &mut delay,
+    );
     let unaccepted = accepted.refusal;
     if unaccepted.number != 0 {
         return refused(unaccepted);
     }
-    let reading = accepted.reading;
-    let proposed = read_proposal(proposal, reading.tasks as usize);
+    let numbers = accepted.numbers;
+    let mut proposed_source: [u8; 256] = [0; 256];
+    let mut proposed_sink: [u8; 256] = [0; 256];
+    let mut proposed_delay: [u8; 256] = [0; 256];
+    let proposed = read_proposal_into(
+        proposal,
+        numbers.tasks as usize,
+        &mut proposed_source,
+        &mut proposed_sink,
+        &mut proposed_delay,
+    );
     let unread = proposed.refusal;
     if unread.number != 0 {
         return refused(unread);
     }
-    let judged = judge(reading, proposed);
-    weighed(judged, reading.bound)
+    let judged = judge(
+        numbers,
+        &processor,
+        &time,
+        &source,
+        &sink,
+        &delay,
+        proposed,
+        &proposed_source,
+        &proposed_sink,
+        &proposed_delay,
+    );
+    weighed(judged, numbers.bound)
 }

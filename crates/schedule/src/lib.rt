@@ -1,4 +1,4 @@
-// Refusals 9 to 12: what a schedule must have to be accepted. Every call on a graph starts from `accept`.
+// Refusals 9 to 12: what a schedule must have to be accepted. Every call on a graph starts from `accept_into`.
 ghost use mathlib.Core.Path.{_≡_};
 ghost use mathlib.Core.Bool.{true, false, not, _&&_};
 ghost use Prim.Native.Nat.{_≤_, _<_};
@@ -12,12 +12,13 @@ ghost use Rattle.reach.specs.Reach.{bit};
 ghost use Rattle.order.specs.Order.{InOrder};
 ghost use Rattle.delays.specs.Delays.{Fit};
 ghost use Rattle.starts.specs.Starts.{FileTimes};
-ghost use Rattle.schedule.specs.Schedule.{scheduleChecks, acceptance};
+ghost use Rattle.schedule.specs.Schedule.{scheduleChecks, acceptanceFrom, acceptance};
 use files::Refusal;
 use order::zero_order;
 use passes::settle_along;
+use readings::GraphNumbers;
 use readings::GraphReading;
-use readings::read_graph;
+use readings::read_graph_into;
 use starts::has_zero_cycle;
 use starts::latency_along;
 use turn::first_turn;
@@ -28,6 +29,13 @@ pub struct Acceptance {
     pub refusal: Refusal,
     pub latency: u32,
     pub reading: GraphReading,
+}
+
+// The same where the lists of the file stand apart.
+pub struct Accepted {
+    pub refusal: Refusal,
+    pub latency: u32,
+    pub numbers: GraphNumbers,
 }
 
 // The outcome of checks 9 to 12: the refusal, and the latency if there is none.
@@ -297,38 +305,83 @@ fn check_schedule<'a>(
     }
 }
 
-// Reads a graph file and judges it up to 12: for every list of bytes.
-pub fn accept(graph: &[u8]) -> Acceptance
-    ensures { λ r. ⌜ r ≡ acceptance (now (graph .entry)) ⌝ }
+// Reads a graph file and judges it up to 12, for every list of bytes: its lists in place of zeros.
+pub fn accept_into<'a>(
+    graph: &[u8],
+    processor: &'a mut [u8],
+    time: &'a mut [u16],
+    source: &'a mut [u8],
+    sink: &'a mut [u8],
+    delay: &'a mut [u8],
+) -> Accepted
+    requires { ⌜ (now processor ≡ zeros 64) × (now time ≡ zeros 64) ⌝ }
+    requires { ⌜ (now source ≡ zeros 320) × (now sink ≡ zeros 320) × (now delay ≡ zeros 320) ⌝ }
+    ensures { λ r. ⌜ acceptanceFrom r (now (processor .exit)) (now (time .exit)) (now (source .exit)) (now (sink .exit)) (now (delay .exit)) ≡ acceptance (now (graph .entry)) ⌝ }
 {
-    let reading = read_graph(graph);
-    let refusal = reading.refusal;
+    let numbers = read_graph_into(graph, processor, time, source, sink, delay);
+    let refusal = numbers.refusal;
     if refusal.number != 0 {
-        return Acceptance {
+        return Accepted {
             refusal,
             latency: 0,
-            reading,
+            numbers,
         };
     }
-    let tasks = reading.tasks as usize;
-    let end = tasks + reading.edges as usize;
-    let source = reading.source;
-    let sink = reading.sink;
-    let delay = reading.delay;
-    let time = reading.time;
+    let tasks = numbers.tasks as usize;
+    let end = tasks + numbers.edges as usize;
     let checked = check_schedule(
         &source[0..end],
         &sink[0..end],
         &delay[0..end],
         &time[0..tasks],
-        reading.input as usize,
-        reading.output as usize,
-        reading.bound,
+        numbers.input as usize,
+        numbers.output as usize,
+        numbers.bound,
     );
     let judged = checked.refusal;
-    Acceptance {
+    Accepted {
         refusal: judged,
         latency: checked.latency,
+        numbers,
+    }
+}
+
+// The same in one struct.
+pub fn accept(graph: &[u8]) -> Acceptance
+    ensures { λ r. ⌜ r ≡ acceptance (now (graph .entry)) ⌝ }
+{
+    let mut processor: [u8; 64] = [0; 64];
+    let mut time: [u16; 64] = [0; 64];
+    let mut source: [u8; 320] = [0; 320];
+    let mut sink: [u8; 320] = [0; 320];
+    let mut delay: [u8; 320] = [0; 320];
+    let accepted = accept_into(
+        graph,
+        &mut processor,
+        &mut time,
+        &mut source,
+        &mut sink,
+        &mut delay,
+    );
+    let refusal = accepted.refusal;
+    let numbers = accepted.numbers;
+    let read = numbers.refusal;
+    let reading = GraphReading {
+        refusal: read,
+        tasks: numbers.tasks,
+        edges: numbers.edges,
+        input: numbers.input,
+        output: numbers.output,
+        bound: numbers.bound,
+        processor,
+        time,
+        source,
+        sink,
+        delay,
+    };
+    Acceptance {
+        refusal,
+        latency: accepted.latency,
         reading,
     }
 }

@@ -2,3 +2,4 @@
 pub mod Staged
 pub mod Elements
 pub mod Listed
+pub mod Behind

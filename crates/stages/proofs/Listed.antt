@@ -72,7 +72,7 @@ module _ (source sink delay : List ℕ) where
         (ap (λ (xs : List EdgeRecord). xs ++ drop (suc j) list) (front-more j) ∙ ap (λ (n : ℕ). front (j + 1) ++ drop n list) (sym (add-one j)))))
 
     module _ (n : ℕ) (in-source : n ≤ length source) (in-sink : n ≤ length sink) (in-delay : n ≤ length delay) where
-      listed : edgesOf (take n source) (take n sink) (take n delay) ≡ tabulate n (heldEdge source sink delay)
+      pub listed : edgesOf (take n source) (take n sink) (take n delay) ≡ tabulate n (heldEdge source sink delay)
       unfolding edgesOf heldEdge
       listed =
           ap (λ (m : ℕ). tabulate m (heldEdge (take n source) (take n sink) (take n delay))) (length-take-le n source in-source) ∙

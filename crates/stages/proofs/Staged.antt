@@ -1,15 +1,15 @@
 -- A stage in lists: the fronts that its edges were stored in make it, and lent from their start they hold its edges.
 use mathlib.Core.Path.{_≡_, sym, ap, _∙_, subst}
-use mathlib.Core.Bool.{Bool}
 use mathlib.Core.List.{List}
 use Prim.Native.Nat.{ℕ, _≤_, _<_}
 use native.Mathlib.Nat.{sub-zero}
 use native.Mathlib.Omega.{arith}
-use lib.ListN.{length, take}
+use lib.ListN.{length, take, length-take}
+use lib.Seq.{getD-take}
 use borrow.Rule.Slice.PartMut.{mid-len}
-use Rattle.model.specs.Lists.{keep}
-use Rattle.model.specs.Tasks.{Edge}
-use Rattle.records.specs.Columns.{edgesOf}
+use Rattle.model.specs.Tasks.{Edge, Ends}
+use Rattle.records.specs.Columns.{heldEdge, edgesOf, at}
+use Rattle.records.proofs.Edges.{edge-in}
 use Rattle.schedule.proofs.Fronts.{front}
 use Rattle.results.specs.Fronts.{HeldFront}
 use Rattle.results.proofs.Fronts.{held-edges}
@@ -49,8 +49,20 @@ module _ {r : StageEdges} {list : List Edge} (holds : HeldStage r list) where
   pub stage-few : length (front (r .count) (r .source)) ≤ 256
   stage-few = omega (arith, sources-length, holds .few)
 
-  -- where few edges are left, few are stored
-  pub few-left :
-      (t : Edge → Bool) {kept : ℕ} {source sink delay : List ℕ} → length (keep t list) < 256 → HeldFront 256 kept source sink delay (keep t (frontStage r))
-      → kept < 256
-  few-left t few held = subst (λ (n : ℕ). n < 256) (sym (held .sources .as-many ∙ ap (λ (es : List Edge). length (keep t es)) stage-held)) few
+-- ── Fronts of lists ──
+
+module _ {count : ℕ} {source sink delay : List ℕ} {list : List Edge} (held : HeldFront 256 count source sink delay list) where
+  pub front-few : count ≤ 256
+  front-few =
+      let parts = held .sources in
+      omega (arith, parts .as-many, parts .room, parts .column .as-many, length-take count source)
+
+  -- the ends of the edges
+  pub front-ends : {tasks : ℕ} → Ends tasks list → (j : ℕ) → j < count → (at source j < tasks) × (at sink j < tasks)
+  unfolding heldEdge at
+  front-ends {tasks} ends j l =
+      let inside : j < length (take count source) = omega (arith, held .sources .as-many, held .sources .column .as-many) in
+      let both =
+      subst (λ (es : List Edge). Ends tasks es) (sym (held-edges held)) ends (heldEdge (take count source) (take count sink) (take count delay) j)
+      (edge-in (take count source) (take count sink) (take count delay) j inside) in
+      (subst (λ (x : ℕ). x < tasks) (getD-take count source j 0 l) (both .0), subst (λ (x : ℕ). x < tasks) (getD-take count sink j 0 l) (both .1))

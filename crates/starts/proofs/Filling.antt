@@ -5,9 +5,9 @@ use mathlib.Core.List.{List, _++_}
 use Prim.Native.Nat.{ℕ, suc, _+_, _-_, _*_, _≤_, _<_}
 use native.Mathlib.Nat.{le-refl, sub-zero, zero-mul, suc-mul, mul-comm, mul-le-mul}
 use native.Mathlib.Omega.{arith}
-use lib.ListN.{length, getD, take, drop}
-use lib.Seq.{length-take-le, take-at, drop-at}
-use borrow.Rule.Slice.PartMut.{midOf, postOf, putMid, mid-len, same-len-mid}
+use lib.ListN.{length, getD, take, drop, getD-replicate, List·getD-append}
+use lib.Seq.{length-take-le, getD-take, getD-drop, ext-getD, take-at, drop-at}
+use borrow.Rule.Slice.PartMut.{midOf, postOf, putMid, mid-len, same-len-mid, drop-put}
 use Rattle.model.specs.Lists.{tabulate}
 use Rattle.model.specs.Tasks.{Edge}
 use Rattle.model.specs.Runs.{ends, estimates}
@@ -85,6 +85,29 @@ turned-none n es time turns kept blank =
       end-long = refl;
     }
 
+-- a list with 0 in the place of its first m numbers
+pub record Cleared (m : ℕ) (first cleared : List ℕ) : Type 0 where
+  pub long : length cleared ≡ length first
+  pub blank : (i : ℕ) → i < m → getD cleared i 0 ≡ 0
+  pub behind : drop m cleared ≡ drop m first
+
+pub cleared-front :
+    (m : ℕ) (first ys : List ℕ) → m ≤ length first → ys ≡ zeros (length (midOf 0 (m - 0) first)) → Cleared m first (putMid 0 (m - 0) first ys)
+unfolding zeros
+cleared-front m first ys room is =
+    let part = mid-len 0 m first room in
+    let as-many : length ys ≡ m - 0 = ap length is ∙ (zeros-length (length (midOf 0 (m - 0) first)) ∙ part) in
+    record {
+      long = same-len-mid 0 (m - 0) first ys (as-many ∙ sym part);
+      blank =
+          λ i l.
+          let inside : i < length ys = omega arith in
+          let within : i < length (midOf 0 (m - 0) first) = omega arith in
+          List·getD-append ys (postOf 0 (m - 0) first) 0 i inside ∙
+          (ap (λ (xs : List ℕ). getD xs i 0) is ∙ getD-replicate (length (midOf 0 (m - 0) first)) i 0 0 within);
+      behind = drop-put 0 m first ys (omega arith) room as-many;
+    }
+
 module _
     {n : ℕ} {es : List Edge} {time : ℕ → ℕ} {turns : ℕ} {kept blank : List ℕ} {place turn : ℕ} {starts end : List ℕ}
     (so-far : Turned n es time turns kept blank place turn starts end)
@@ -96,13 +119,13 @@ module _
     next-place : place + n ≡ turn * n
     next-place = ap (λ (m : ℕ). m + n) (so-far .placed) ∙ (sym (suc-mul (turn - 1) n) ∙ ap (λ (m : ℕ). m * n) next)
 
-    pub turn-room : turn ≤ turns → n ≤ 64 → turns ≤ 64 → n * turns ≤ length kept → blank ≡ zeros 4096 → Room n place starts end
-    turn-room more few early room size =
+    pub turn-room : turn ≤ turns → n ≤ 64 → turns ≤ 64 → n * turns ≤ length kept → n * turns ≤ length blank → Room n place starts end
+    turn-room more few early room end-room =
         let wide : turn * n ≤ turns * n = mul-le-mul more (le-refl n) in
         let all : turns * n ≤ 64 * 64 = mul-le-mul early few in
         let turned = mul-comm n turns in
         let starts-long = so-far .starts-long in
-        let end-long : length end ≡ 4096 = so-far .end-long ∙ (ap length size ∙ zeros-length 4096) in
+        let end-long = so-far .end-long in
         let there = next-place in
         record {
           starts-to = omega arith;
@@ -110,6 +133,24 @@ module _
           end-from = omega arith;
           small = omega arith;
         }
+
+    -- where the list was cleared, the next row holds 0
+    pub row-blank :
+        {first : List ℕ} → Cleared (n * turns) first kept → turn ≤ turns → place + n ≤ length starts → midOf place (place + n - place) starts ≡ zeros n
+    unfolding zeros
+    row-blank clear more room =
+        ext-getD 0 (midOf place (place + n - place) starts) (zeros n) (part-length place n starts room ∙ sym (zeros-length n))
+        (λ i l.
+        let inside : i < n = subst (λ (m : ℕ). i < m) (part-length place n starts room) l in
+        let wide : turn * n ≤ turns * n = mul-le-mul more (le-refl n) in
+        let turned = mul-comm n turns in
+        let there = next-place in
+        getD-take (place + n - place) (drop place starts) i 0 (omega arith) ∙
+        (ap (λ (xs : List ℕ). getD xs i 0)
+        (ap (λ (xs : List ℕ). drop place xs) (so-far .started) ∙
+        drop-at (rows (turn - 1) (λ k. turnRow n es time (suc k))) (drop place kept) place
+        (rows-length n (λ k. turnRow n es time (suc k)) (λ k. row-length n es time (suc k) refl) (turn - 1) ∙ sym (so-far .placed))) ∙
+        (getD-drop place kept i 0 ∙ (clear .blank (place + i) (omega arith) ∙ sym (getD-replicate n i 0 0 inside)))))
 
     front-is : take (place - 0) end ≡ rows (turn - 1) (λ k. endRow n es time (suc k))
     front-is =

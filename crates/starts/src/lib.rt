@@ -28,29 +28,6 @@ struct Starts {
     start: [u32; 64],
 }
 
-// Ends of up to 64 tasks in up to 64 turns, turn by turn.
-struct Ended {
-    end: [u32; 4096],
-}
-
-// Up to 576 edges.
-struct EdgeLists {
-    source: [u8; 576],
-    sink: [u8; 576],
-    delay: [u8; 576],
-}
-
-// Lists to write into.
-fn blank_edges() -> EdgeLists
-    ensures { λ r. ⌜ (length (r .source) ≡ 576) × (length (r .sink) ≡ 576) × (length (r .delay) ≡ 576) ⌝ }
-{
-    EdgeLists {
-        source: [0; 576],
-        sink: [0; 576],
-        delay: [0; 576],
-    }
-}
-
 // Times of 1.
 fn unit_times() -> Times
     ensures { λ r. ⌜ r .time ≡ replicate 64 1 ⌝ }
@@ -63,13 +40,6 @@ fn no_starts() -> Starts
     ensures { λ r. ⌜ r .start ≡ zeros 64 ⌝ }
 {
     Starts { start: [0; 64] }
-}
-
-// Ends of 0, in the place of turns that have not run.
-fn no_ends() -> Ended
-    ensures { λ r. ⌜ r .end ≡ zeros 4096 ⌝ }
-{
-    Ended { end: [0; 4096] }
 }
 
 // Whether there is a cycle of delay 0: at times of 1 a start would then have to pass every limit, and without such a cycle none
@@ -95,8 +65,53 @@ pub fn has_zero_cycle<'a>(source: &'a [u8], sink: &'a [u8], delay: &'a [u8], tas
     !settled
 }
 
-// The earliest starts of one turn, counted from 1, after the ends of the turns before it; whatever the row held before. An order of the edges
-// of delay 0 saves rounds over them; of the others only those count that let the turn wait.
+// The earliest starts of one turn, counted from 1, after the ends of the turns before it, in a row that holds 0. An order of the edges of delay 0
+// saves rounds over them; of the others only those count that let the turn wait.
+fn settle_turn<'a>(
+    source: &'a [u8],
+    sink: &'a [u8],
+    delay: &'a [u8],
+    order_source: &'a [u8],
+    order_sink: &'a [u8],
+    count: usize,
+    found: bool,
+    late_source: &'a [u8],
+    late_sink: &'a [u8],
+    late_delay: &'a [u8],
+    time: &'a [u16],
+    ended: &'a [u32],
+    turn: usize,
+    row: &mut [u32],
+)
+    requires { ⌜ (length (now sink) ≡ length (now source)) × (length (now delay) ≡ length (now source)) ⌝ }
+    requires { ⌜ (count ≤ length (now «order_source»)) × (count ≤ length (now «order_sink»)) ⌝ }
+    requires { ⌜ (found ≡ true → InOrder (edgesOf (now source) (now sink) (now delay)) (now «order_source») (now «order_sink») count) ⌝ }
+    requires { ⌜ (length (now «late_sink») ≡ length (now «late_source»)) × (length (now «late_delay») ≡ length (now «late_source»)) ⌝ }
+    requires { ⌜ Late (edgesOf (now source) (now sink) (now delay)) (edgesOf (now «late_source») (now «late_sink») (now «late_delay»)) turn ⌝ }
+    requires { ⌜ (length (now time) ≡ length (now row)) × (length (now row) ≤ 64) ⌝ }
+    requires { ⌜ now row ≡ zeros (length (now row)) ⌝ }
+    requires { ⌜ (1 ≤ turn) × (turn ≤ 64) ⌝ }
+    requires { ⌜ Ends (length (now row)) (edgesOf (now source) (now sink) (now delay)) ⌝ }
+    requires { ⌜ zeroCycle (length (now row)) (edgesOf (now source) (now sink) (now delay)) ≡ false ⌝ }
+    requires { ⌜ FileTimes (now time) ⌝ }
+    requires { ⌜ EndedBefore (length (now row)) (edgesOf (now source) (now sink) (now delay)) (at (now time)) turn (now ended) ⌝ }
+    ensures { λ _. ⌜ now (row .exit) ≡ turnRow (length (now (row .entry))) (edgesOf (now (source .entry)) (now (sink .entry)) (now (delay .entry))) (at (now (time .entry))) turn ⌝ }
+{
+    await_earlier(late_source, late_sink, late_delay, ended, turn, row);
+    settle_along(
+        source,
+        sink,
+        delay,
+        order_source,
+        order_sink,
+        count,
+        found,
+        time,
+        row,
+    );
+}
+
+// The same in a row that may hold anything.
 pub fn turn_starts<'a>(
     source: &'a [u8],
     sink: &'a [u8],
@@ -127,8 +142,7 @@ pub fn turn_starts<'a>(
     ensures { λ _. ⌜ now (row .exit) ≡ turnRow (length (now (row .entry))) (edgesOf (now (source .entry)) (now (sink .entry)) (now (delay .entry))) (at (now (time .entry))) turn ⌝ }
 {
     clear(row);
-    await_earlier(late_source, late_sink, late_delay, ended, turn, row);
-    settle_along(
+    settle_turn(
         source,
         sink,
         delay,
@@ -136,7 +150,12 @@ pub fn turn_starts<'a>(
         order_sink,
         count,
         found,
+        late_source,
+        late_sink,
+        late_delay,
         time,
+        ended,
+        turn,
         row,
     );
 }
@@ -210,18 +229,20 @@ pub fn latency<'a>(
     latency_along(source, sink, delay, source, sink, 0, false, time, output)
 }
 
-// The earliest starts of the first turns, turn by turn at the front of a list; elements past them keep what they held.
-pub fn turns_into<'a>(
+// The earliest starts of the first turns, turn by turn at the front of a list; elements past them keep what they held. Another list has room for
+// the ends of these turns.
+fn turns_with<'a, 'b>(
     source: &'a [u8],
     sink: &'a [u8],
     delay: &'a [u8],
     time: &'a [u16],
     turns: usize,
-    starts: &mut [u32],
+    end: &'b mut [u32],
+    starts: &'b mut [u32],
 )
     requires { ⌜ (length (now sink) ≡ length (now source)) × (length (now delay) ≡ length (now source)) ⌝ }
     requires { ⌜ length (now source) ≤ 576 ⌝ }
-    requires { ⌜ (length (now time) ≤ 64) × (turns ≤ 64) × (length (now time) * turns ≤ length (now starts)) ⌝ }
+    requires { ⌜ (length (now time) ≤ 64) × (turns ≤ 64) × (length (now time) * turns ≤ length (now starts)) × (length (now time) * turns ≤ length (now end)) ⌝ }
     requires { ⌜ Ends (length (now time)) (edgesOf (now source) (now sink) (now delay)) ⌝ }
     requires { ⌜ zeroCycle (length (now time)) (edgesOf (now source) (now sink) (now delay)) ≡ false ⌝ }
     requires { ⌜ FileTimes (now time) ⌝ }
@@ -233,10 +254,9 @@ pub fn turns_into<'a>(
     let order_sink = order.sink;
     let count = order.count as usize;
     let found = order.found;
-    let lists = blank_edges();
-    let mut late_source = lists.source;
-    let mut late_sink = lists.sink;
-    let mut late_delay = lists.delay;
+    let mut late_source: [u8; 576] = [0; 576];
+    let mut late_sink: [u8; 576] = [0; 576];
+    let mut late_delay: [u8; 576] = [0; 576];
     let late = later_edges(
         source,
         sink,
@@ -246,12 +266,11 @@ pub fn turns_into<'a>(
         &mut late_sink,
         &mut late_delay,
     );
-    let ends = no_ends();
-    let mut end = ends.end;
+    clear(&mut starts[0..tasks * turns]);
     let mut at = 0;
     let mut turn = 1;
     while turn <= turns {
-        turn_starts(
+        settle_turn(
             source,
             sink,
             delay,
@@ -271,4 +290,30 @@ pub fn turns_into<'a>(
         at += tasks;
         turn += 1;
     }
+}
+
+// The same with room of its own for the ends, no more of it than a small desk needs.
+pub fn turns_into<'a>(
+    source: &'a [u8],
+    sink: &'a [u8],
+    delay: &'a [u8],
+    time: &'a [u16],
+    turns: usize,
+    starts: &mut [u32],
+)
+    requires { ⌜ (length (now sink) ≡ length (now source)) × (length (now delay) ≡ length (now source)) ⌝ }
+    requires { ⌜ length (now source) ≤ 576 ⌝ }
+    requires { ⌜ (length (now time) ≤ 64) × (turns ≤ 64) × (length (now time) * turns ≤ length (now starts)) ⌝ }
+    requires { ⌜ Ends (length (now time)) (edgesOf (now source) (now sink) (now delay)) ⌝ }
+    requires { ⌜ zeroCycle (length (now time)) (edgesOf (now source) (now sink) (now delay)) ≡ false ⌝ }
+    requires { ⌜ FileTimes (now time) ⌝ }
+    ensures { λ _. ⌜ now (starts .exit) ≡ turnRows (length (now (time .entry))) (edgesOf (now (source .entry)) (now (sink .entry)) (now (delay .entry))) (at (now (time .entry))) turns ++ drop (length (now (time .entry)) * turns) (now (starts .entry)) ⌝ }
+{
+    if time.len() * turns <= 512 {
+        let mut few: [u32; 512] = [0; 512];
+        turns_with(source, sink, delay, time, turns, &mut few, starts);
+        return;
+    }
+    let mut many: [u32; 4096] = [0; 4096];
+    turns_with(source, sink, delay, time, turns, &mut many, starts);
 }

@@ -67,9 +67,9 @@ neither false fell q = (refl, q)
 -- ── One look ──
 
 module _
-    (source sink delay : List ℕ) (fit : Fit 64 (edgesOf source sink delay)) {a : ℕ} (inner : a < 64) {table after row stale : List ℕ} {fall : ℕ}
+    (source sink delay : List ℕ) (fit : Fit 64 (edgesOf source sink delay)) {a : ℕ} (inner : a < 64) {table after row stale : List ℕ} {changed : Bool}
     (going : Going (edgesOf source sink delay) table stale) (over : RowOver source sink delay a (length source) table row)
-    (stored : Stored row (a * 64) table after fall)
+    (stored : Stored row (a * 64) table after changed)
   where
     -- the row is in its place
     own-row : (b : ℕ) → b < 64 → rowAt after a b ≡ getD row b 0
@@ -165,7 +165,7 @@ module _
     idle-other e m from to (inr shorter) = let low = row-low (e .source) (e .sink) (fit .ends e m .1) in inr (omega arith)
 
     -- nothing changed
-    pub look-still : fall ≡ 0 → Looked (edgesOf source sink delay) a table stale after (set stale a 0) false
+    pub look-still : changed ≡ false → Looked (edgesOf source sink delay) a table stale after (set stale a 0) false
     look-still none = record {
       going = record {
         sound = sound-after;
@@ -201,7 +201,7 @@ module _
 
     -- the row changed, and the marks of its task's row were taken over
     pub look-fell :
-        {follows marked : List ℕ} → 1 ≤ fall → Followed source sink (length source) follows → length marked ≡ 64
+        {follows marked : List ℕ} → changed ≡ true → Followed source sink (length source) follows → length marked ≡ 64
         → ((x : ℕ) → x < 64 → getD marked x 0 ≡ max (getD (set stale a 0) x 0) (getD follows (a * 64 + x) 0))
         → Looked (edgesOf source sink delay) a table stale after marked true
     unfolding heldEdge
@@ -229,10 +229,16 @@ module _
 
         smaller : sum after < sum table
         smaller =
-            let f = stored .fell some in
-            let inside = stored .inside (f .0) (f .1) in
+            let f = stored .other some in
             let size = going .sound .size in
-            sum-less after table (stored .size) low (a * 64 + f .0) (omega (arith, f .1)) (omega (arith, f .2))
+            let fell = less (f .0) (f .1) (f .2) (order (rowAt table a (f .0)) (getD row (f .0) 0)) in
+            sum-less after table (stored .size) low (a * 64 + f .0) (omega (arith, f .1)) fell
+          where
+            less :
+                (b : ℕ) → b < 64 → (getD row b 0 ≡ rowAt table a b → ⊥) → (rowAt table a b ≤ getD row b 0) ⊎ (getD row b 0 < rowAt table a b)
+                → rowAt after a b < rowAt table a b
+            less b l other (inl above) = let under = over .low b l in absurd (other (omega arith))
+            less b l other (inr below) = let mine = own-row b l in omega arith
 
         edge :
             (e : Edge) → e ∈ edgesOf source sink delay → (e .source ≡ a) ⊎ (e .source ≡ a → ⊥) → (e .sink ≡ a) ⊎ (e .sink ≡ a → ⊥)
@@ -252,11 +258,6 @@ module _
             let same = getD-set-other stale a (e .source) 0 0 other in
             let is = each (e .source) (fit .ends e m .0) in
             inr (omega arith)
-
--- a number that is not 0
-pub some-fall : (x : ℕ) → (x ≡ 0 → ⊥) → 1 ≤ x
-some-fall zero h = absurd (h refl)
-some-fall (suc x) h = omega arith
 
 -- the task is not marked
 pub look-none : {es : List Edge} {a : ℕ} {table stale : List ℕ} → Going es table stale → getD stale a 0 ≡ 0 → Looked es a table stale table stale false

@@ -1,10 +1,13 @@
 -- Steps of the loops over rows and edges.
-use mathlib.Core.Path.{_≡_, sym, ap, _∙_, subst}
+use borrow.Author.Tests.{eqb-true, eqb-false, not-true, not-false}
+use mathlib.Core.Path.{_≡_, refl, sym, ap, _∙_, subst}
 use mathlib.Core.Logic.{_⊎_, inl, inr}
+use mathlib.Core.Bool.{Bool, true, false, not, _||_, true≢false}
 use mathlib.Core.List.{List}
-use Prim.Native.Nat.{ℕ, _+_, _-_, _*_, _≤_, _<_, max}
+use Prim.Native.Nat.{ℕ, _+_, _*_, _≤_, _<_}
 use native.Mathlib.Nat.{not-suc-le-zero}
 use native.Mathlib.Omega.{arith}
+use lib.Dec.{eqb}
 use lib.ListN.{length, getD, set, replicate, length-set, length-replicate, getD-replicate}
 use lib.Seq.{getD-set-same, getD-set-other}
 use Rattle.model.proofs.Basics.{order}
@@ -94,28 +97,28 @@ followed-more {source} {sink} j {follows} from to held = record {
 
 -- ── A row stored ──
 
--- The first k entries of a row are in the place of others, none of them lower; the number is 0 as long as they are the same.
-pub record Falls (row : List ℕ) (at : ℕ) (before : List ℕ) (k fall : ℕ) : Type 0 where
-  pub still : fall ≡ 0 → (b : ℕ) → b < k → getD row b 0 ≡ getD before (at + b) 0
-  pub fell : 1 ≤ fall → (b : ℕ) × (b < k) × (getD row b 0 < getD before (at + b) 0)
+-- The first k entries of a row are to take the place of others; the flag says whether one of them is another.
+pub record Differs (row : List ℕ) (at : ℕ) (before : List ℕ) (k : ℕ) (changed : Bool) : Type 0 where
+  pub still : changed ≡ false → (b : ℕ) → b < k → getD row b 0 ≡ getD before (at + b) 0
+  pub other : changed ≡ true → (b : ℕ) × (b < k) × (getD row b 0 ≡ getD before (at + b) 0 → ⊥)
 
-pub falls-none : (row : List ℕ) (at : ℕ) (before : List ℕ) → Falls row at before 0 0
-falls-none row at before = record { still = λ q b l. absurd (not-suc-le-zero l); fell = λ l. absurd (not-suc-le-zero l) }
+pub differs-none : (row : List ℕ) (at : ℕ) (before : List ℕ) → Differs row at before 0 false
+differs-none row at before = record { still = λ q b l. absurd (not-suc-le-zero l); other = λ q. absurd (true≢false (sym q)) }
 
-pub falls-more :
-    {row : List ℕ} {at : ℕ} {before : List ℕ} (now : List ℕ) {k fall next : ℕ} → Falls row at before k fall → getD now (at + k) 0 ≡ getD before (at + k) 0
-    → getD row k 0 ≤ getD before (at + k) 0 → next ≡ max fall (getD now (at + k) 0 - getD row k 0) → Falls row at before (k + 1) next
-falls-more {row} {at} {before} now {k} {fall} {next} held kept low is = record {
-  still = λ q b l. same b l (omega arith) (omega arith) (order k b);
-  fell = λ q. found (order 1 fall) q;
+pub differs-more :
+    {row : List ℕ} {at : ℕ} {before : List ℕ} (now : List ℕ) {k : ℕ} (changed : Bool) → Differs row at before k changed
+    → getD now (at + k) 0 ≡ getD before (at + k) 0 → Differs row at before (k + 1) (changed || not (eqb (getD row k 0) (getD now (at + k) 0)))
+differs-more now true held kept = record {
+  still = λ q. absurd (true≢false q);
+  other = λ q. let f = held .other refl in (f .0, omega (arith, f .1), f .2);
+}
+differs-more {row} {at} {before} now {k} false held kept = record {
+  still = λ q b l. same b l (eqb-true (getD row k 0) (getD now (at + k) 0) (not-false (eqb (getD row k 0) (getD now (at + k) 0)) q) ∙ kept) (order k b);
+  other = λ q. (k, omega arith, λ is. eqb-false (getD row k 0) (getD now (at + k) 0) (not-true (eqb (getD row k 0) (getD now (at + k) 0)) q) (is ∙ sym kept));
 }
   where
-    same : (b : ℕ) → b < k + 1 → fall ≡ 0 → getD row k 0 ≡ getD before (at + k) 0 → (k ≤ b) ⊎ (b < k) → getD row b 0 ≡ getD before (at + b) 0
-    same b l none here (inl last) =
+    same : (b : ℕ) → b < k + 1 → getD row k 0 ≡ getD before (at + k) 0 → (k ≤ b) ⊎ (b < k) → getD row b 0 ≡ getD before (at + b) 0
+    same b l here (inl last) =
         let at-k : k ≡ b = omega arith in
         subst (λ (x : ℕ). getD row x 0 ≡ getD before (at + x) 0) at-k here
-    same b l none here (inr earlier) = held .still none b earlier
-
-    found : (1 ≤ fall) ⊎ (fall < 1) → 1 ≤ next → (b : ℕ) × (b < k + 1) × (getD row b 0 < getD before (at + b) 0)
-    found (inl before-this) q = let f = held .fell before-this in (f .0, omega (arith, f .1), f .2)
-    found (inr none) q = (k, omega arith, omega arith)
+    same b l here (inr earlier) = held .still refl b earlier

@@ -83,13 +83,13 @@ pub record RowOver (source sink delay : List ℕ) (a count : ℕ) (table row : L
       (j : ℕ) → j < count → j < length source → getD source j 0 ≡ a
       → ((b : ℕ) → b < 64 → getD row b 0 ≤ getD delay j 0 + rowAt table (getD sink j 0) b) ⊎ (rowAt table a (getD sink j 0) < getD delay j 0)
 
--- A row in the place of another from a place on, where no entry was lower; the number is 0 if they are the same.
-pub record Stored (row : List ℕ) (at : ℕ) (before after : List ℕ) (fall : ℕ) : Type 0 where
+-- A row in the place of another from a place on; the flag says whether an entry changed.
+pub record Stored (row : List ℕ) (at : ℕ) (before after : List ℕ) (changed : Bool) : Type 0 where
   pub size : length after ≡ length before
   pub inside : (b : ℕ) → b < 64 → getD after (at + b) 0 ≡ getD row b 0
   pub outside : (i : ℕ) → (i < at) ⊎ (at + 64 ≤ i) → getD after i 0 ≡ getD before i 0
-  pub still : fall ≡ 0 → (b : ℕ) → b < 64 → getD row b 0 ≡ getD before (at + b) 0
-  pub fell : 1 ≤ fall → (b : ℕ) × (b < 64) × (getD row b 0 < getD before (at + b) 0)
+  pub still : changed ≡ false → (b : ℕ) → b < 64 → getD row b 0 ≡ getD before (at + b) 0
+  pub other : changed ≡ true → (b : ℕ) × (b < 64) × (getD row b 0 ≡ getD before (at + b) 0 → ⊥)
 
 -- After a look at task a: if nothing changed, it is no longer marked, and no other became marked.
 pub record Looked (es : List Edge) (a : ℕ) (table stale table-after stale-after : List ℕ) (changed : Bool) : Type 0 where

@@ -13,19 +13,19 @@ use Rattle.updates.specs.Updates.{Small, LineSpread, Spread}
 
 -- the first `many` rows have the entries of these lines
 pub record LinesSpread (table : List ℕ) (outer inner tasks many : ℕ) (lines : List ℕ) : Type 0 where
-  pub size : length lines ≡ 4096
+  pub size : tasks * 64 ≤ length lines
   pub small : Small lines
   pub inside : (a b : ℕ) → a < many → b < tasks → at lines (a * 64 + b) ≡ min (at table (a * outer + b * inner)) 32767
 
 pub lines-none :
-    (table : List ℕ) (outer inner tasks : ℕ) {lines : List ℕ} → length lines ≡ 4096 → Small lines → LinesSpread table outer inner tasks 0 lines
+    (table : List ℕ) (outer inner tasks : ℕ) {lines : List ℕ} → tasks * 64 ≤ length lines → Small lines → LinesSpread table outer inner tasks 0 lines
 lines-none table outer inner tasks size small = record { size = size; small = small; inside = λ a b l k. absurd (not-suc-le-zero l) }
 
 pub lines-more :
     {table : List ℕ} {outer inner tasks a first : ℕ} {lines after : List ℕ} → LinesSpread table outer inner tasks a lines → tasks ≤ 64
     → first ≡ a * outer → LineSpread table first inner (a * 64) tasks lines after → LinesSpread table outer inner tasks (a + 1) after
 lines-more {table} {outer} {inner} {tasks} {a} {first} {lines} {after} done few starts next = record {
-  size = next .size ∙ done .size;
+  size = omega (arith, next .size, done .size);
   small = λ i. low i (order (a * 64) i) (order (a * 64 + tasks) i);
   inside = λ c b l k. go c b l k (order a c);
 }

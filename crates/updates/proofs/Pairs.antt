@@ -1,27 +1,28 @@
 -- Rows of delays are joined by rows of copies of the same delays: a row lent as a part holds the numbers of its places, so both lists fall as a new
--- pair asks.
-use mathlib.Core.Path.{_≡_, sym, ap, _∙_, subst}
-use mathlib.Core.Logic.{_⊎_, inl, inr}
-use mathlib.Core.Bool.{not}
-use mathlib.Core.List.{List}
+-- pair asks. Nothing past the rows of the tasks matters, since edges end at tasks.
+use mathlib.Core.Path.{_≡_, refl, sym, ap, _∙_, subst}
+use mathlib.Core.Logic.{_⊎_, inl, inr, ⊎-elim}
+use mathlib.Core.Bool.{Bool, not}
+use mathlib.Core.List.{List, [], _∷_, List·Memᴰ·head as here, List·Memᴰ·tail as there}
 use Prim.Native.Nat.{ℕ, _+_, _-_, _*_, _≤_, _<_, min}
 use native.Mathlib.Omega.{arith}
-use lib.ListN.{length, drop, getD, List·getD-eq-default}
+use lib.Dec.{leb}
+use lib.ListN.{length, drop, List·getD-eq-default}
 use lib.Seq.{getD-take, getD-drop}
 use borrow.Rule.Slice.PartMut.{midOf, mid-len}
-use Rattle.model.specs.Lists.{keep}
-use Rattle.model.specs.Tasks.{Edge}
+use Rattle.model.specs.Lists.{put, keep}
+use Rattle.model.specs.Tasks.{Edge, _∈_, Ends}
 use Rattle.model.specs.Plan.{withPair}
 use Rattle.model.proofs.Basics.{order}
 use Rattle.records.specs.Columns.{at}
 use Rattle.counts.specs.Counts.{subsumesBy, RowsFell, CountsOf}
-use Rattle.updates.specs.Updates.{Small, RowsJoined, PairAdded}
+use Rattle.updates.specs.Updates.{Small, Fronts, RowsJoined, PairAdded}
 
 -- the row of a task, as it is lent
 abbrev pub rowOf : ℕ → List ℕ → List ℕ
 rowOf a xs = midOf (a * 64) (a * 64 + 64 - a * 64) xs
 
-module _ (a : ℕ) (xs : List ℕ) (below : a < 64) (size : length xs ≡ 4096) where
+module _ (a : ℕ) (xs : List ℕ) (room : a * 64 + 64 ≤ length xs) where
   pub row-size : length (rowOf a xs) ≡ 64
   row-size =
       let width : a * 64 + 64 - a * 64 ≡ 64 = omega arith in
@@ -37,45 +38,73 @@ module _ (a : ℕ) (xs : List ℕ) (below : a < 64) (size : length xs ≡ 4096) 
   unfolding at
   past i l = let short : length (rowOf a xs) ≤ i = omega (arith, row-size) in List·getD-eq-default (rowOf a xs) 0 short
 
-  pub row-small : Small xs → Small (rowOf a xs)
-  row-small small i = go (order 64 i)
-    where
-      go : (64 ≤ i) ⊎ (i < 64) → at (rowOf a xs) i ≤ 32767
-      go (inl h) = omega (arith, past i h)
-      go (inr h) = omega (arith, row-at i h, small (a * 64 + i))
-
 -- ── By rows of copies ──
 
 -- the row of a copy is lent as `join_rows` asks
 pub kept-row :
-    (a : ℕ) {old xs : List ℕ} → a < 64 → old ≡ xs → length xs ≡ 4096 → Small xs → (length (rowOf a old) ≡ 64) × Small (rowOf a old)
-kept-row a {old} {xs} below same size small =
-    subst (λ (ys : List ℕ). (length (rowOf a ys) ≡ 64) × Small (rowOf a ys)) (sym same) (row-size a xs below size, row-small a xs below size small)
+    (a : ℕ) {tasks : ℕ} {xs old : List ℕ} → a < tasks → Fronts (tasks * 64) xs old → tasks * 64 ≤ length old → Small xs
+    → (length (rowOf a old) ≡ 64) × Small (rowOf a old)
+kept-row a {tasks} {xs} {old} below same size small = (row-size a old room, λ i. go i (order 64 i))
+  where
+    room : a * 64 + 64 ≤ length old
+    room = omega arith
 
-pub fell-kept : {tasks : ℕ} {old xs after fell : List ℕ} → old ≡ xs → RowsFell tasks xs after fell → RowsFell tasks old after fell
-fell-kept {tasks} {old} {xs} {after} {fell} same falls = subst (λ (ys : List ℕ). RowsFell tasks ys after fell) (sym same) falls
+    go : (i : ℕ) → (64 ≤ i) ⊎ (i < 64) → at (rowOf a old) i ≤ 32767
+    go i (inl h) = omega (arith, past a old room i h)
+    go i (inr h) = omega (arith, row-at a old room i h, same .same (a * 64 + i) (omega arith), small (a * 64 + i))
 
-module _ {from to old-from old-to : List ℕ} (from-same : old-from ≡ from) (to-same : old-to ≡ to) where
-  pub counts-kept : {tasks : ℕ} {es : List Edge} {counts : List ℕ} → CountsOf tasks from to es counts → CountsOf tasks old-from old-to es counts
-  counts-kept {tasks} {es} {counts} before =
-      subst (λ (xs : List ℕ). CountsOf tasks xs old-to es counts) (sym from-same)
-      (subst (λ (ys : List ℕ). CountsOf tasks from ys es counts) (sym to-same) before)
+pub fell-kept : {tasks : ℕ} {xs old after fell : List ℕ} → Fronts (tasks * 64) xs old → RowsFell tasks xs after fell → RowsFell tasks old after fell
+fell-kept same falls = record {
+  lower = λ x y l k. omega (arith, same .same (x * 64 + y) (omega arith), falls .lower x y l k);
+  least = λ x y l k.
+      ⊎-elim (λ q. inl (omega (arith, same .same (x * 64 + y) (omega arith)))) (λ q. inr q) (falls .least x y l k);
+}
+
+-- lists of what passes tests that agree on all elements
+pub keep-equal : (t s : Edge → Bool) (xs : List Edge) → ((e : Edge) → e ∈ xs → t e ≡ s e) → keep t xs ≡ keep s xs
+unfolding keep
+keep-equal t s [] same = refl
+keep-equal t s (x ∷ xs) same = λ i. put (same x (here refl) i) x (keep-equal t s xs (λ e m. same e (there m)) i)
+
+module _ {tasks : ℕ} {from to old-from old-to : List ℕ} (from-same : Fronts (tasks * 64) from old-from) (to-same : Fronts (tasks * 64) to old-to) where
+  -- the same edges are subsumed by the copies
+  same-test :
+      {es : List Edge} (a b : ℕ) → a < 64 → b < 64 → Ends tasks es → (e : Edge) → e ∈ es → subsumesBy old-from old-to a b e ≡ subsumesBy from to a b e
+  unfolding subsumesBy
+  same-test a b la lb ends e m =
+      let both = ends e m in
+      let before = from-same .same (e .source * 64 + a) (omega (arith, both .0)) in
+      let after = to-same .same (e .sink * 64 + b) (omega (arith, both .1)) in
+      ap (λ (x : ℕ). leb (x + at old-to (e .sink * 64 + b)) (e .delay)) before ∙
+      ap (λ (y : ℕ). leb (at from (e .source * 64 + a) + y) (e .delay)) after
+
+  pub counts-kept :
+      {es : List Edge} {counts : List ℕ} → tasks ≤ 64 → Ends tasks es → CountsOf tasks from to es counts → CountsOf tasks old-from old-to es counts
+  counts-kept {es} {counts} few ends before = record {
+    size = before .size;
+    each = λ a b l k.
+        before .each a b l k ∙
+        sym (ap length (keep-equal (subsumesBy old-from old-to a b) (subsumesBy from to a b) es (same-test a b (omega arith) k ends)));
+  }
 
   pub counts-after :
-      (es : List Edge) (a b : ℕ) {tasks : ℕ} {from′ to′ counts : List ℕ}
+      (es : List Edge) (a b : ℕ) {from′ to′ counts : List ℕ} → a < 64 → b < 64 → Ends tasks es
       → CountsOf tasks from′ to′ (withPair (keep (λ e. not (subsumesBy old-from old-to a b e)) es) a b) counts
       → CountsOf tasks from′ to′ (withPair (keep (λ e. not (subsumesBy from to a b e)) es) a b) counts
-  counts-after es a b {tasks} {from′} {to′} {counts} after =
-      subst (λ (xs : List ℕ). CountsOf tasks from′ to′ (withPair (keep (λ e. not (subsumesBy xs to a b e)) es) a b) counts) from-same
-      (subst (λ (ys : List ℕ). CountsOf tasks from′ to′ (withPair (keep (λ e. not (subsumesBy old-from ys a b e)) es) a b) counts) to-same after)
+  counts-after es a b {from′} {to′} {counts} la lb ends after =
+      let same =
+      keep-equal (λ e. not (subsumesBy old-from old-to a b e)) (λ e. not (subsumesBy from to a b e)) es
+      (λ e m. ap not (same-test a b la lb ends e m)) in
+      subst (λ (xs : List Edge). CountsOf tasks from′ to′ (withPair xs a b) counts) same after
 
   pub pair-added :
-      {tasks a b : ℕ} {from′ to′ fell-from fell-to : List ℕ} → tasks ≤ 64 → a < tasks → b < tasks → length from ≡ 4096 → length to ≡ 4096
+      {a b : ℕ} {from′ to′ fell-from fell-to : List ℕ} → tasks ≤ 64 → a < tasks → b < tasks → tasks * 64 ≤ length from → tasks * 64 ≤ length to
+      → tasks * 64 ≤ length old-from → tasks * 64 ≤ length old-to
       → RowsJoined (rowOf a old-to) (rowOf b old-from) tasks from from′ fell-from
       → RowsJoined (rowOf b old-from) (rowOf a old-to) tasks to to′ fell-to → PairAdded tasks a b from to from′ to′
-  pair-added {tasks} {a} {b} few a-below b-below from-size to-size rows columns = record {
-    from-size = rows .size ∙ from-size;
-    to-size = columns .size ∙ to-size;
+  pair-added {a} {b} few a-below b-below from-size to-size old-from-size old-to-size rows columns = record {
+    from-size = omega (arith, rows .size);
+    to-size = omega (arith, columns .size);
     from-small = rows .small;
     to-small = columns .small;
     from-is = λ x y l k.
@@ -89,7 +118,7 @@ module _ {from to old-from old-to : List ℕ} (from-same : old-from ≡ from) (t
   }
     where
       way : (x : ℕ) → x < 64 → at (rowOf a old-to) x ≡ at to (a * 64 + x)
-      way x l = row-at a old-to (omega arith) (ap length to-same ∙ to-size) x l ∙ ap (λ (ys : List ℕ). at ys (a * 64 + x)) to-same
+      way x l = row-at a old-to (omega arith) x l ∙ to-same .same (a * 64 + x) (omega arith)
 
       onward : (y : ℕ) → y < 64 → at (rowOf b old-from) y ≡ at from (b * 64 + y)
-      onward y l = row-at b old-from (omega arith) (ap length from-same ∙ from-size) y l ∙ ap (λ (xs : List ℕ). at xs (b * 64 + y)) from-same
+      onward y l = row-at b old-from (omega arith) y l ∙ from-same .same (b * 64 + y) (omega arith)

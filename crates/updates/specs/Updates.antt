@@ -11,6 +11,10 @@ use Rattle.counts.specs.Counts.{RowsFell}
 abbrev pub Small : List ℕ → Type 0
 Small xs = (i : ℕ) → at xs i ≤ 32767
 
+-- two lists agree in so many places from the front
+pub record Fronts (count : ℕ) (xs ys : List ℕ) : Type 0 where
+  pub same : (i : ℕ) → i < count → at ys i ≡ at xs i
+
 -- the first `many` numbers from a start on are entries of a table that stand a step apart, cut at 32,767; the other numbers are as before
 pub record LineSpread (table : List ℕ) (first step start many : ℕ) (before after : List ℕ) : Type 0 where
   pub size : length after ≡ length before
@@ -19,7 +23,7 @@ pub record LineSpread (table : List ℕ) (first step start many : ℕ) (before a
 
 -- row a has the entries of line a of a table, cut at 32,767, in its first places
 pub record Spread (table : List ℕ) (outer inner tasks : ℕ) (lines : List ℕ) : Type 0 where
-  pub size : length lines ≡ 4096
+  pub size : tasks * 64 ≤ length lines
   pub small : Small lines
   pub inside : (a b : ℕ) → a < tasks → b < tasks → at lines (a * 64 + b) ≡ min (at table (a * outer + b * inner)) 32767
 
@@ -40,8 +44,8 @@ pub record RowsJoined (ways onward : List ℕ) (tasks : ℕ) (before after fell 
 
 -- Each delay fell to the way to a and the way from b on, in both lists.
 pub record PairAdded (tasks a b : ℕ) (from to from′ to′ : List ℕ) : Type 0 where
-  pub from-size : length from′ ≡ 4096
-  pub to-size : length to′ ≡ 4096
+  pub from-size : tasks * 64 ≤ length from′
+  pub to-size : tasks * 64 ≤ length to′
   pub from-small : Small from′
   pub to-small : Small to′
   pub from-is : (x y : ℕ) → x < tasks → y < 64 →

@@ -8,7 +8,7 @@ ghost use Rattle.model.specs.Tasks.{Ends};
 ghost use Rattle.model.specs.Plan.{withPair};
 ghost use Rattle.records.specs.Columns.{at, edgesOf};
 ghost use Rattle.counts.specs.Counts.{subsumesBy, CountsOf};
-ghost use Rattle.updates.specs.Updates.{Spread, LineSpread, RowFell, RowsJoined, PairAdded, Small};
+ghost use Rattle.updates.specs.Updates.{Spread, LineSpread, RowFell, RowsJoined, PairAdded, Small, Fronts};
 use counts::shift_edges;
 
 // No path: above every delay of a path that matters, and so small that the sum of two entries fits 16 bits.
@@ -50,7 +50,7 @@ fn spread_line(
     start: usize,
     lines: &mut [u16],
 )
-    requires { ⌜ (tasks ≤ 64) × (start + 64 ≤ length (now lines)) × (length (now lines) ≡ 4096) ⌝ }
+    requires { ⌜ (tasks ≤ 64) × (start + 64 ≤ length (now lines)) × (start ≤ 4096) ⌝ }
     requires { ⌜ (first ≤ 4096) × (step ≤ 64) × ((b : ℕ) → b < tasks → first + b * step < length (now table)) ⌝ }
     ensures { λ _. ⌜ LineSpread (now (table .entry)) first step start tasks (now (lines .entry)) (now (lines .exit)) ⌝ }
 {
@@ -66,7 +66,7 @@ fn spread_line(
 // Copies a table of delays line by line into rows of 64 numbers, cut at 32,767: its rows if lines are a row apart and entries are neighbours, its
 // columns the other way round.
 pub fn spread(table: &[u16], outer: usize, inner: usize, tasks: usize, lines: &mut [u16])
-    requires { ⌜ (tasks ≤ 64) × (outer ≤ 64) × (inner ≤ 64) × (length (now lines) ≡ 4096) × Small (now lines) ⌝ }
+    requires { ⌜ (tasks ≤ 64) × (outer ≤ 64) × (inner ≤ 64) × (tasks * 64 ≤ length (now lines)) × Small (now lines) ⌝ }
     requires { ⌜ ((a b : ℕ) → a < tasks → b < tasks → a * outer + b * inner < length (now table)) ⌝ }
     ensures { λ _. ⌜ Spread (now (table .entry)) outer inner tasks (now (lines .exit)) ⌝ }
 {
@@ -82,7 +82,7 @@ pub fn spread(table: &[u16], outer: usize, inner: usize, tasks: usize, lines: &m
 // Lowers a row of 64 numbers to a way and the numbers of another row after it. Gives the least of those that fell, 65,535 if none did.
 fn lower_row(way: u16, onward: &[u16], start: usize, rows: &mut [u16]) -> u16
     requires { ⌜ (way ≤ 32767) × (length (now onward) ≡ 64) × ((y : ℕ) → y < 64 → at (now onward) y ≤ 32767) ⌝ }
-    requires { ⌜ (start + 64 ≤ length (now rows)) × (length (now rows) ≡ 4096) ⌝ }
+    requires { ⌜ (start + 64 ≤ length (now rows)) × (start ≤ 4096) ⌝ }
     ensures { λ r. ⌜ RowFell way (now (onward .entry)) start 64 (now (rows .entry)) (now (rows .exit)) r ⌝ }
 {
     let mut least = NONE;
@@ -100,7 +100,7 @@ fn lower_row(way: u16, onward: &[u16], start: usize, rows: &mut [u16]) -> u16
 // Lowers each row of delays to its way to one end of a new edge of delay 0 and the delays from the other end on: `ways` has the way of each row,
 // `onward` the delays after it. `fell` takes the least entry of each row that fell.
 pub fn join_rows(ways: &[u16], onward: &[u16], tasks: usize, rows: &mut [u16], fell: &mut [u16])
-    requires { ⌜ (tasks ≤ 64) × (length (now ways) ≡ 64) × (length (now onward) ≡ 64) × (length (now rows) ≡ 4096) × (length (now fell) ≡ 64) ⌝ }
+    requires { ⌜ (tasks ≤ 64) × (length (now ways) ≡ 64) × (length (now onward) ≡ 64) × (tasks * 64 ≤ length (now rows)) × (length (now fell) ≡ 64) ⌝ }
     requires { ⌜ Small (now ways) × Small (now onward) × Small (now rows) ⌝ }
     ensures { λ _. ⌜ RowsJoined (now (ways .entry)) (now (onward .entry)) tasks (now (rows .entry)) (now (rows .exit)) (now (fell .exit)) ⌝ }
 {
@@ -116,20 +116,20 @@ pub fn join_rows(ways: &[u16], onward: &[u16], tasks: usize, rows: &mut [u16], f
     }
 }
 
-// Copies a list into one as long.
-fn copy(from: &[u16], to: &mut [u16])
-    requires { ⌜ length (now to) ≡ length (now from) ⌝ }
-    ensures { λ _. ⌜ now (to .exit) ≡ now (from .entry) ⌝ }
+// Copies the first numbers of a list to the front of another.
+fn copy(from: &[u16], count: usize, to: &mut [u16])
+    requires { ⌜ (count ≤ length (now from)) × (count ≤ length (now to)) × (count ≤ 4096) ⌝ }
+    ensures { λ _. ⌜ Fronts count (now (from .entry)) (now (to .exit)) ⌝ }
 {
     let mut i = 0;
-    while i < from.len() {
+    while i < count {
         to[i] = from[i];
         i += 1;
     }
 }
 
 // Adds the pair (a, b) to delays and counts of a stage: delays fall to the way to a and the way from b on, what the pair subsumes is dropped, and its
-// own edge is counted last.
+// own edge is counted last. `old_from` and `old_to` take the delays as they were.
 pub fn add_pair<'a, 'b>(
     source: &'a [u8],
     sink: &'a [u8],
@@ -140,18 +140,19 @@ pub fn add_pair<'a, 'b>(
     from: &'b mut [u16],
     to: &'b mut [u16],
     counts: &'b mut [u16],
+    old_from: &'b mut [u16],
+    old_to: &'b mut [u16],
 )
     requires { ⌜ (length (now sink) ≡ length (now source)) × (length (now delay) ≡ length (now source)) × (length (now source) ≤ 256) ⌝ }
-    requires { ⌜ (length (now from) ≡ 4096) × (length (now to) ≡ 4096) × Small (now from) × Small (now to) ⌝ }
+    requires { ⌜ (tasks * 64 ≤ length (now from)) × (tasks * 64 ≤ length (now to)) × Small (now from) × Small (now to) ⌝ }
     requires { ⌜ (tasks ≤ 64) × (a < tasks) × (b < tasks) × Ends tasks (edgesOf (now source) (now sink) (now delay)) ⌝ }
+    requires { ⌜ (tasks * 64 ≤ length (now «old_from»)) × (tasks * 64 ≤ length (now «old_to»)) ⌝ }
     requires { ⌜ CountsOf tasks (now from) (now to) (edgesOf (now source) (now sink) (now delay)) (now counts) ⌝ }
     ensures delays { λ _. ⌜ PairAdded tasks a b (now (from .entry)) (now (to .entry)) (now (from .exit)) (now (to .exit)) ⌝ }
     ensures counts { λ _. ⌜ CountsOf tasks (now (from .exit)) (now (to .exit)) (withPair (keep (λ e. not (subsumesBy (now (from .entry)) (now (to .entry)) a b e)) (edgesOf (now (source .entry)) (now (sink .entry)) (now (delay .entry)))) a b) (now (counts .exit)) ⌝ }
 {
-    let mut old_from = [0; 4096];
-    let mut old_to = [0; 4096];
-    copy(from, &mut old_from);
-    copy(to, &mut old_to);
+    copy(from, tasks * WIDTH, old_from);
+    copy(to, tasks * WIDTH, old_to);
     let mut fell_from = [0; 64];
     let mut fell_to = [0; 64];
     let start_to = a * WIDTH;
@@ -176,8 +177,8 @@ pub fn add_pair<'a, 'b>(
         source,
         sink,
         delay,
-        &old_from,
-        &old_to,
+        old_from,
+        old_to,
         from,
         to,
         &fell_from,

@@ -78,24 +78,24 @@ edge-place {n} source sink delay j few fit below =
     (place-within n n (getD source j 0) (getD sink j 0) (ends .0) (ends .1), product-small n n few few)
 
 -- the square before any edge
-pub no-steps : (n : ℕ) (rs : List Edge) {square : List ℕ} → square ≡ replicate 4096 65535 → Stepped n rs square
-no-steps n rs {square} blank = record {
-  room = ap length blank ∙ length-replicate {A = ℕ} 4096 65535;
+pub no-steps : (n size : ℕ) (rs : List Edge) {square : List ℕ} → square ≡ replicate size 65535 → Stepped n size rs square
+no-steps n size rs {square} blank = record {
+  room = ap length blank ∙ length-replicate {A = ℕ} size 65535;
   steps = λ i inside small.
-      let far : getD square i 0 ≡ 65535 = ap (λ (xs : List ℕ). getD xs i 0) blank ∙ getD-replicate {A = ℕ} 4096 i 65535 0 inside in
+      let far : getD square i 0 ≡ 65535 = ap (λ (xs : List ℕ). getD xs i 0) blank ∙ getD-replicate {A = ℕ} size i 65535 0 inside in
       absurd (omega arith);
 }
 
 -- an entry lowered to the delay of an edge with these ends, or left
 pub step-taken :
-    {n : ℕ} {rs : List Edge} {square square′ : List ℕ} (at delay : ℕ) → Stepped n rs square → square′ ≡ set square at delay → at < 4096
-    → (delay ≡ getD square at 0) ⊎ ((e : Edge) × e ∈ rs × (e .source * n + e .sink ≡ at) × (e .delay ≤ delay)) → Stepped n rs square′
-step-taken {n} {rs} {square} {square′} at delay held is inside which = record {
+    {n size : ℕ} {rs : List Edge} {square square′ : List ℕ} (at delay : ℕ) → Stepped n size rs square → square′ ≡ set square at delay → at < size
+    → (delay ≡ getD square at 0) ⊎ ((e : Edge) × e ∈ rs × (e .source * n + e .sink ≡ at) × (e .delay ≤ delay)) → Stepped n size rs square′
+step-taken {n} {size} {rs} {square} {square′} at delay held is inside which = record {
   room = ap length is ∙ (length-set square at delay ∙ held .room);
   steps = λ i below small. go i below small (order i at) (order at i);
 }
   where
-    other : (i : ℕ) → i < 4096 → getD square′ i 0 ≤ 255 → (i ≡ at → ⊥)
+    other : (i : ℕ) → i < size → getD square′ i 0 ≤ 255 → (i ≡ at → ⊥)
         → (e : Edge) × e ∈ rs × (e .source * n + e .sink ≡ i) × (e .delay ≤ getD square′ i 0)
     other i below small apart =
         let same : getD square′ i 0 ≡ getD square i 0 = ap (λ (xs : List ℕ). getD xs i 0) is ∙ getD-set-other square at i delay 0 apart in
@@ -106,7 +106,7 @@ step-taken {n} {rs} {square} {square′} at delay held is inside which = record 
         → (delay ≡ getD square at 0) ⊎ ((e : Edge) × e ∈ rs × (e .source * n + e .sink ≡ at) × (e .delay ≤ delay))
         → (e : Edge) × e ∈ rs × (e .source * n + e .sink ≡ i) × (e .delay ≤ getD square′ i 0)
     here i q small which =
-        let room : length square ≡ 4096 = held .room in
+        let room : length square ≡ size = held .room in
         let stored : getD square′ i 0 ≡ delay =
         ap (λ (xs : List ℕ). getD xs i 0) is ∙ (ap (λ (k : ℕ). getD (set square at delay) k 0) q ∙ getD-set-same square at delay 0 (omega arith)) in
         pick stored which
@@ -118,17 +118,17 @@ step-taken {n} {rs} {square} {square′} at delay held is inside which = record 
             (old .0, old .1, old .2 ∙ sym q, omega (arith, stored, left, old .3))
         pick stored (inr new) = (new .0, new .1, new .2 ∙ sym q, omega (arith, stored, new .3))
 
-    go : (i : ℕ) → i < 4096 → getD square′ i 0 ≤ 255 → (i ≤ at) ⊎ (at < i) → (at ≤ i) ⊎ (i < at)
+    go : (i : ℕ) → i < size → getD square′ i 0 ≤ 255 → (i ≤ at) ⊎ (at < i) → (at ≤ i) ⊎ (i < at)
         → (e : Edge) × e ∈ rs × (e .source * n + e .sink ≡ i) × (e .delay ≤ getD square′ i 0)
     go i below small (inl h) (inl h′) = here i (omega arith) small which
     go i below small (inr h) after = other i below small (λ q. omega arith)
     go i below small (inl h) (inr h′) = other i below small (λ q. omega arith)
 
 -- the front of the square, as long as n rows of n
-pub steps-front : {n : ℕ} {rs : List Edge} {square : List ℕ} → n ≤ 64 → Stepped n rs square → length (front (n * n) square) ≡ n * n
-steps-front {n} {rs} {square} few held =
-    let room : length square ≡ 4096 = held .room in
-    ap (λ (k : ℕ). length (take k square)) (sub-zero (n * n)) ∙ length-take-le (n * n) square (omega (arith, product-small n n few few))
+pub steps-front : {n size : ℕ} {rs : List Edge} {square : List ℕ} → n * n ≤ size → Stepped n size rs square → length (front (n * n) square) ≡ n * n
+steps-front {n} {size} {rs} {square} fits held =
+    let room : length square ≡ size = held .room in
+    ap (λ (k : ℕ). length (take k square)) (sub-zero (n * n)) ∙ length-take-le (n * n) square (omega arith)
 
 -- ── The first order lost ──
 
@@ -178,7 +178,7 @@ module _ {n : ℕ} (few : n ≤ 64) (source sink delay : List ℕ) (rs : List Ed
       let e = heldEdge source sink delay (n + i) in
       not-lost i (decides-yes (order-holds-is n rs ends e) (path-held ends e (path-edge (there (n + i) (omega arith))) (le-refl (e .delay))))))
 
-  module _ {square : List ℕ} (ends : Ends n rs) (is : Stepped n rs square) where
+  module _ {size : ℕ} {square : List ℕ} (fits : n * n ≤ size) (ends : Ends n rs) (is : Stepped n size rs square) where
     order-stepped : (i : ℕ) → n + i < length source → between n source sink (front (n * n) square) i ≤ getD delay (n + i) 0 → held i ≡ true
     unfolding heldEdge
     order-stepped i below within =
@@ -188,7 +188,7 @@ module _ {n : ℕ} (few : n ≤ 64) (source sink delay : List ℕ) (rs : List Ed
         let short = fit .delays e member in
         let place = e .source * n + e .sink in
         let inside : place < n * n = place-within n n (e .source) (e .sink) (own .0) (own .1) in
-        let small : place < 4096 = omega (arith, inside, product-small n n few few) in
+        let small : place < size = omega (arith, inside, fits) in
         let same : getD (front (n * n) square) place 0 ≡ getD square place 0 =
         ap (λ (k : ℕ). getD (take k square) place 0) (sub-zero (n * n)) ∙ getD-take (n * n) square place 0 inside in
         let found = is .steps place small (omega (arith, same, within, short)) in

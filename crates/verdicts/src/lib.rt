@@ -9,16 +9,16 @@ ghost use Rattle.model.specs.Graph.{Graph};
 ghost use Rattle.records.specs.Columns.{edgesOf, at};
 ghost use Rattle.delays.specs.Delays.{Fit};
 ghost use Rattle.reach.specs.Reach.{ReachesOn};
+ghost use Rattle.readings.specs.Working.{graphFrom, proposalFrom};
 ghost use Rattle.verdicts.specs.Verdicts.{judgement, OpenPlace, Judgeable};
 ghost use Rattle.verdicts.specs.Tables.{FoundCyclic, Among, Stepped, FirstAbove, lostFrom};
-use delays::DelayTable;
 use files::Refusal;
 use reach::leads_to;
 use reach::paths_between_processors;
 use reach::processor_of;
-use readings::GraphReading;
-use readings::ProposalReading;
-use results::result_edges_on;
+use readings::GraphNumbers;
+use readings::ProposalNumbers;
+use results::result_edges_into;
 use tables::least_table;
 
 // The verdict on proposed edges: the refusal, and the latency of the result if it is accepted or late, 0 otherwise.
@@ -37,9 +37,12 @@ const LATE: Refusal = Refusal {
     place: 0,
 };
 
+// So many tasks that a square of 256 entries has room for the delays between them.
+const FEW: usize = 16;
+
 // The place of an edge that lies on a cycle, counted from 1, or 0 if none does: by between which processors paths lead in the graph that has them.
 fn cyclic_place<'a>(source: &'a [u8], sink: &'a [u8], processor: &'a [u8], words: &'a [u64]) -> u32
-    requires { ⌜ (length (now sink) ≡ length (now source)) × (length (now source) ≤ 256) × (length (now words) ≡ 64) ⌝ }
+    requires { ⌜ (length (now sink) ≡ length (now source)) × (length (now source) ≤ 256) × (length (now words) ≡ 16) ⌝ }
     requires { ⌜ ((v : ℕ) → v < length (now processor) → at (now processor) v < 16) ⌝ }
     requires { ⌜ ((j : ℕ) → j < length (now source) → (at (now source) j < length (now processor)) × (at (now sink) j < length (now processor))) ⌝ }
     ensures { λ r. ⌜ ((rs : List Edge) → ReachesOn (length (now (processor .entry))) rs (now (processor .entry)) (now (words .entry)) → FoundCyclic (length (now (processor .entry))) rs (now (source .entry)) (now (sink .entry)) r) ⌝ }
@@ -54,15 +57,6 @@ fn cyclic_place<'a>(source: &'a [u8], sink: &'a [u8], processor: &'a [u8], words
         j += 1;
     }
     0
-}
-
-// A square without any edge.
-fn no_steps() -> DelayTable
-    ensures { λ r. ⌜ r .delay ≡ replicate 4096 65535 ⌝ }
-{
-    DelayTable {
-        delay: [65535; 4096],
-    }
 }
 
 // The smaller of two delays.
@@ -84,9 +78,9 @@ fn take_steps<'a>(
     square: &mut [u16],
 )
     requires { ⌜ (length (now sink) ≡ length (now source)) × (length (now delay) ≡ length (now source)) ⌝ }
-    requires { ⌜ (tasks ≤ 64) × (now square ≡ replicate 4096 65535) ⌝ }
+    requires { ⌜ (tasks ≤ 64) × (tasks * tasks ≤ length (now square)) × (now square ≡ replicate (length (now square)) 65535) ⌝ }
     requires { ⌜ Fit tasks (edgesOf (now source) (now sink) (now delay)) ⌝ }
-    ensures { λ _. ⌜ Stepped tasks (edgesOf (now (source .entry)) (now (sink .entry)) (now (delay .entry))) (now (square .exit)) ⌝ }
+    ensures { λ _. ⌜ Stepped tasks (length (now (square .entry))) (edgesOf (now (source .entry)) (now (sink .entry)) (now (delay .entry))) (now (square .exit)) ⌝ }
 {
     let mut j = 0;
     while j < source.len() {
@@ -126,9 +120,37 @@ fn first_above<'a>(
     PASSED
 }
 
-// 14: the first edge of a graph's file whose order is lost in the result. None is where the result has as many edges as the graph and those proposed: then
-// it has every edge. An edge of the result with the same ends and no more delay holds an order; only where one lacks such an edge the least delays are
-// worked out.
+// 14: the first edge of a graph's file whose order is lost in the result, by a square of 65,535 to write into. An edge of the result with the same ends and
+// no more delay holds an order; only where one lacks such an edge the least delays are worked out.
+fn lost_by<'a>(
+    source: &'a [u8],
+    sink: &'a [u8],
+    delay: &'a [u8],
+    result_source: &'a [u8],
+    result_sink: &'a [u8],
+    result_delay: &'a [u8],
+    tasks: usize,
+    table: &mut [u16],
+) -> Refusal
+    requires { ⌜ (length (now sink) ≡ length (now source)) × (length (now delay) ≡ length (now source)) ⌝ }
+    requires { ⌜ (length (now «result_sink») ≡ length (now «result_source»)) × (length (now «result_delay») ≡ length (now «result_source»)) ⌝ }
+    requires { ⌜ (tasks ≤ length (now source)) × (length (now source) ≤ 320) × (tasks ≤ 64) ⌝ }
+    requires { ⌜ (tasks * tasks ≤ length (now table)) × (now table ≡ replicate (length (now table)) 65535) ⌝ }
+    requires { ⌜ Fit tasks (edgesOf (now source) (now sink) (now delay)) ⌝ }
+    requires { ⌜ Fit tasks (edgesOf (now «result_source») (now «result_sink») (now «result_delay»)) ⌝ }
+    ensures { λ r. ⌜ r ≡ lostFrom tasks (edgesOf (now («result_source» .entry)) (now («result_sink» .entry)) (now («result_delay» .entry))) (now (source .entry)) (now (sink .entry)) (now (delay .entry)) ⌝ }
+{
+    take_steps(result_source, result_sink, result_delay, tasks, table);
+    let open = first_above(source, sink, delay, &table[0..tasks * tasks], tasks);
+    if open.number == 0 {
+        return open;
+    }
+    least_table(result_source, result_sink, result_delay, tasks, table);
+    first_above(source, sink, delay, &table[0..tasks * tasks], tasks)
+}
+
+// 14, where no order is lost if the result has as many edges as the graph and those proposed: then it has every edge. The square is no larger than so many
+// tasks ask for.
 fn lost_order<'a>(
     source: &'a [u8],
     sink: &'a [u8],
@@ -150,34 +172,56 @@ fn lost_order<'a>(
     if result_source.len() == source.len() + proposed {
         return PASSED;
     }
-    let blank = no_steps();
-    let mut table = blank.delay;
-    take_steps(result_source, result_sink, result_delay, tasks, &mut table);
-    let open = first_above(source, sink, delay, &table[0..tasks * tasks], tasks);
-    if open.number == 0 {
-        return open;
+    if tasks <= FEW {
+        let mut small: [u16; 256] = [65535; 256];
+        return lost_by(
+            source,
+            sink,
+            delay,
+            result_source,
+            result_sink,
+            result_delay,
+            tasks,
+            &mut small,
+        );
     }
-    least_table(result_source, result_sink, result_delay, tasks, &mut table);
-    first_above(source, sink, delay, &table[0..tasks * tasks], tasks)
+    let mut table: [u16; 4096] = [65535; 4096];
+    lost_by(
+        source,
+        sink,
+        delay,
+        result_source,
+        result_sink,
+        result_delay,
+        tasks,
+        &mut table,
+    )
 }
 
-// Judges proposed edges beside a graph.
-pub fn judge(graph: GraphReading, proposal: ProposalReading) -> Judgement
-    requires { ⌜ ((g : Graph) × (proposed : List Edge) × Judgeable graph proposal g proposed) ⌝ }
-    ensures { λ r. ⌜ ((g : Graph) (proposed : List Edge) → Judgeable graph proposal g proposed → r ≡ judgement g proposed (r .refusal .place)) ⌝ }
-    ensures { λ r. ⌜ ((g : Graph) (proposed : List Edge) → Judgeable graph proposal g proposed → r .refusal .number ≡ 13 → OpenPlace g proposed (r .refusal .place)) ⌝ }
+// Judges proposed edges beside a graph, whose lists stand apart from their numbers.
+pub fn judge<'a>(
+    graph: GraphNumbers,
+    processor: &'a [u8],
+    time: &'a [u16],
+    source: &'a [u8],
+    sink: &'a [u8],
+    delay: &'a [u8],
+    proposal: ProposalNumbers,
+    proposed_source: &'a [u8],
+    proposed_sink: &'a [u8],
+    proposed_delay: &'a [u8],
+) -> Judgement
+    requires { ⌜ ((g : Graph) × (proposed : List Edge) × Judgeable (graphFrom graph (now processor) (now time) (now source) (now sink) (now delay)) (proposalFrom proposal (now «proposed_source») (now «proposed_sink») (now «proposed_delay»)) g proposed) ⌝ }
+    ensures { λ r. ⌜ ((g : Graph) (proposed : List Edge) → Judgeable (graphFrom graph (now (processor .entry)) (now (time .entry)) (now (source .entry)) (now (sink .entry)) (now (delay .entry))) (proposalFrom proposal (now («proposed_source» .entry)) (now («proposed_sink» .entry)) (now («proposed_delay» .entry))) g proposed → r ≡ judgement g proposed (r .refusal .place)) ⌝ }
+    ensures { λ r. ⌜ ((g : Graph) (proposed : List Edge) → Judgeable (graphFrom graph (now (processor .entry)) (now (time .entry)) (now (source .entry)) (now (sink .entry)) (now (delay .entry))) (proposalFrom proposal (now («proposed_source» .entry)) (now («proposed_sink» .entry)) (now («proposed_delay» .entry))) g proposed → r .refusal .number ≡ 13 → OpenPlace g proposed (r .refusal .place)) ⌝ }
 {
     let tasks = graph.tasks as usize;
     let end = tasks + graph.edges as usize;
-    let source = graph.source;
-    let sink = graph.sink;
-    let delay = graph.delay;
     let proposed = proposal.edges as usize;
-    let proposed_source = proposal.source;
-    let proposed_sink = proposal.sink;
-    let proposed_delay = proposal.delay;
-    let processor = graph.processor;
-    let result = result_edges_on(
+    let mut result_source: [u8; 576] = [0; 576];
+    let mut result_sink: [u8; 576] = [0; 576];
+    let mut result_delay: [u8; 576] = [0; 576];
+    let count = result_edges_into(
         &source[0..end],
         &sink[0..end],
         &delay[0..end],
@@ -185,11 +229,10 @@ pub fn judge(graph: GraphReading, proposal: ProposalReading) -> Judgement
         &proposed_source[0..proposed],
         &proposed_sink[0..proposed],
         &proposed_delay[0..proposed],
+        &mut result_source,
+        &mut result_sink,
+        &mut result_delay,
     );
-    let count = result.count as usize;
-    let result_source = result.source;
-    let result_sink = result.sink;
-    let result_delay = result.delay;
     let reach = paths_between_processors(
         &result_source[0..count],
         &result_sink[0..count],
@@ -224,7 +267,6 @@ pub fn judge(graph: GraphReading, proposal: ProposalReading) -> Judgement
             latency: 0,
         };
     }
-    let time = graph.time;
     let latency = starts::latency(
         &result_source[0..count],
         &result_sink[0..count],

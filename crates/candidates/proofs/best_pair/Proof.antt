@@ -1,27 +1,29 @@
 -- `candidates::best_pair` meets its contract: after a steps the pair is the best of those out of the first a tasks. A task whose counts do not exceed
--- what the best pair subsumes has no better one.
-use mathlib.Core.Path.{_≡_, sym, _∙_, subst}
+-- what the best pair subsumes, as far as they are in time, has no better one.
+use mathlib.Core.Path.{_≡_, refl, sym, _∙_, subst}
 use mathlib.Core.Logic.{⊎-elim}
 use mathlib.Core.List.{List}
 use Prim.Native.Nat.{ℕ, _+_, _-_, _*_, _≤_, _<_}
 use native.Mathlib.Omega.{arith}
 use lib.ListN.{length}
+use borrow.Author.Needs.{needs}
 use borrow.Rule.Slice.PartMut.{mid-len}
 use Rattle.records.specs.Columns.{at}
 use Rattle.candidates.specs.Candidates.{worthIn}
+use Rattle.candidates.specs.Searches.{UnitRow}
 use Rattle.candidates.proofs.Worth.{rowOf, rowFront, worth-by-row, worth-few}
 use Rattle.candidates.proofs.Best.{BestUp, best-none, best-row, best-skipped, row-done, best-of-all}
 use Rattle.candidates.proofs.best_pair.Statement.{statement}
 use Rattle.candidates.proofs.best_pair.Tie as tie
 
 abbrev Inv-loop : tie.InvT-loop
-Inv-loop counts to end latest tasks best₀ a₀ best a = (a ≤ tasks) × BestUp tasks (worthIn counts to end latest) a 0 best
+Inv-loop counts to end latest tasks fine coarse best₀ a₀ best a = (a ≤ tasks) × BestUp tasks (worthIn counts to end latest) a 0 best
 
 abbrev μ-loop : tie.MeasureT-loop
-μ-loop counts to end latest tasks best₀ a₀ best a = tasks - a
+μ-loop counts to end latest tasks fine coarse best₀ a₀ best a = tasks - a
 
 abbrev start : tie.In-loop Inv-loop μ-loop → tie.Start Inv-loop μ-loop
-start c = c .before .before .before .before .before .before
+start c = c .before .before .before .before .before .before .before .before .before .before .before .before
 
 -- the rows of the task, lent as parts
 row-wide : (c : tie.In-loop Inv-loop μ-loop) → length (rowOf (c .before .loop .a) (start c .args .counts .now)) ≡ 64
@@ -38,27 +40,76 @@ front-wide c =
     let long = mid-len place (place + n) (start c .args .to .now) (omega (arith, start c .pre .0, start c .pre .2, c .loop-test .taken)) in
     omega (arith, long)
 
+-- the latest starts in units
+fine-row :
+    (c : tie.In-loop Inv-loop μ-loop)
+    → UnitRow (start c .args .latest .now) 0 (length (start c .args .latest .now)) (c .before .before .before .before .before .before .unit-row .last .1 .1 .0)
+fine-row c = c .before .before .before .before .before .before .unit-row .ensures
+
+coarse-row :
+    (c : tie.In-loop Inv-loop μ-loop)
+    → UnitRow (start c .args .latest .now) 8 (length (start c .args .latest .now)) (c .before .before .before .unit-row2 .last .1 .1 .0)
+coarse-row c = c .before .before .before .unit-row2 .ensures
+
+slice-aggregate-unit-row : tie.Need-slice-aggregate-unit-row Inv-loop μ-loop
+slice-aggregate-unit-row c = refl
+
+unit-row-requires : tie.Need-unit-row-requires Inv-loop μ-loop
+unit-row-requires c κs =
+    let asked = c .before .before .before .before .before .pre in
+    (omega arith, omega (arith, asked .0, asked .4), refl)
+
+slice-aggregate-unit-row-2 : tie.Need-slice-aggregate-unit-row-2 Inv-loop μ-loop
+slice-aggregate-unit-row-2 c = refl
+
+unit-row-requires-2 : tie.Need-unit-row-requires-2 Inv-loop μ-loop
+unit-row-requires-2 c κs =
+    let asked = c .before .before .before .before .before .before .before .before .pre in
+    (omega arith, omega (arith, asked .0, asked .4), refl)
+
 loop-holds : tie.Need-loop-holds Inv-loop μ-loop
 loop-holds c = (omega arith, best-none _ _ (omega arith))
 
 mul-start : tie.Need-mul-start Inv-loop μ-loop
 mul-start c = omega (arith, start c .pre .0)
 
-most-of-requires : tie.Need-most-of-requires Inv-loop μ-loop
-most-of-requires c κs =
-    (start c .pre .1, start c .pre .2, omega (arith, start c .pre .0, c .loop-test .taken))
+cut-requires : tie.Need-cut-requires Inv-loop μ-loop
+cut-requires c κs = search needs
 
-cast-if1 : tie.Need-cast-if1 Inv-loop μ-loop
-cast-if1 c = omega arith
+mul-may-exceed : tie.Need-mul-may-exceed Inv-loop μ-loop
+mul-may-exceed c = omega (arith, start (c .before) .pre .0)
+
+shared-slice-read-may-exceed : tie.Need-shared-slice-read-may-exceed Inv-loop μ-loop
+shared-slice-read-may-exceed c =
+    let inner = c .before .before in
+    omega (arith, start inner .pre .3, inner .loop-test .taken)
+
+slice-aggregate-may-exceed : tie.Need-slice-aggregate-may-exceed Inv-loop μ-loop
+slice-aggregate-may-exceed c = sym (fine-row (c .before .before .before) .size)
+
+slice-aggregate-may-exceed-2 : tie.Need-slice-aggregate-may-exceed-2 Inv-loop μ-loop
+slice-aggregate-may-exceed-2 c = sym (coarse-row (c .before .before .before .before) .size)
+
+may-exceed-requires : tie.Need-may-exceed-requires Inv-loop μ-loop
+may-exceed-requires c κs =
+    let inner = c .before .before .before .before in
+    let asked = start inner .pre in
+    let inside = inner .loop-test .taken in (
+      omega (arith, asked .0, inside),
+      omega (arith, asked .1, inside),
+      omega (arith, asked .2, inside),
+      fine-row inner .size,
+      coarse-row inner .size,
+    )
 
 add-best-counted : tie.Need-add-best-counted Inv-loop μ-loop
 add-best-counted c =
-    let inner = c .before .before .before in
+    let inner = c .before .before .before .before .before .before in
     omega (arith, start inner .pre .0)
 
 mul-best-counted : tie.Need-mul-best-counted Inv-loop μ-loop
 mul-best-counted c =
-    let inner = c .before .before .before in
+    let inner = c .before .before .before .before .before .before in
     omega (arith, start inner .pre .0)
 
 sub-best-counted : tie.Need-sub-best-counted Inv-loop μ-loop
@@ -69,17 +120,17 @@ part-best-counted-start c = omega arith
 
 part-best-counted-end : tie.Need-part-best-counted-end Inv-loop μ-loop
 part-best-counted-end c =
-    let inner = c .before .before .before in
+    let inner = c .before .before .before .before .before .before in
     omega (arith, start inner .pre .0, start inner .pre .1, inner .loop-test .taken)
 
 add-best-counted-2 : tie.Need-add-best-counted-2 Inv-loop μ-loop
 add-best-counted-2 c =
-    let inner = c .before .before .before .before in
+    let inner = c .before .before .before .before .before .before .before in
     omega (arith, start inner .pre .0)
 
 mul-best-counted-2 : tie.Need-mul-best-counted-2 Inv-loop μ-loop
 mul-best-counted-2 c =
-    let inner = c .before .before .before .before in
+    let inner = c .before .before .before .before .before .before .before in
     omega (arith, start inner .pre .0)
 
 sub-best-counted-2 : tie.Need-sub-best-counted-2 Inv-loop μ-loop
@@ -90,22 +141,22 @@ part-best-counted-start-2 c = omega arith
 
 part-best-counted-end-2 : tie.Need-part-best-counted-end-2 Inv-loop μ-loop
 part-best-counted-end-2 c =
-    let inner = c .before .before .before .before in
+    let inner = c .before .before .before .before .before .before .before in
     omega (arith, start inner .pre .0, start inner .pre .2, inner .loop-test .taken)
 
 mul-best-counted-3 : tie.Need-mul-best-counted-3 Inv-loop μ-loop
 mul-best-counted-3 c =
-    let inner = c .before .before .before .before .before in
+    let inner = c .before .before .before .before .before .before .before .before in
     omega (arith, start inner .pre .0, inner .loop-test .taken)
 
 shared-slice-read-best-counted : tie.Need-shared-slice-read-best-counted Inv-loop μ-loop
 shared-slice-read-best-counted c =
-    let inner = c .before .before .before .before .before .before in
+    let inner = c .before .before .before .before .before .before .before .before .before in
     omega (arith, start inner .pre .3, inner .loop-test .taken)
 
 best-counted-requires : tie.Need-best-counted-requires Inv-loop μ-loop
 best-counted-requires c κs =
-    let inner = c .before .before .before .before .before .before in
+    let inner = c .before .before .before .before .before .before .before .before .before in
     let asked = start inner .pre in
     let wide = front-wide inner in
     (omega (arith, asked .0, wide), row-wide inner, asked .4 ∙ sym wide, omega (arith, inner .loop-test .taken, wide))
@@ -119,7 +170,7 @@ loop-less c = omega arith
 loop-again : tie.Need-loop-again Inv-loop μ-loop
 unfolding at
 loop-again c =
-    let inner = c .before .before .before in
+    let inner = c .before .before .before .before .before .before in
     let args = start inner .args in
     let n = args .tasks in
     let few = start inner .pre .0 in
@@ -140,14 +191,19 @@ loop-again c =
           (λ w.
           row-done
           (best-skipped (loop .inv .1)
-          (λ d l. omega (arith, worth-few few counts to end latest a d l (c .before .before .most-of .ensures), w .0 .left)))
+          (λ d l.
+          let least : c .before .before .before .before .before .cut .result ≤ loop .best .gain = omega (arith, c .before .before .before .before .before .cut .ensures) in
+          let worth-least : worth a d ≤ c .before .before .before .before .before .cut .result
+          = ⊎-elim (λ none. worth-few few counts to end latest a d l (start inner .pre .4) (fine-row inner) none)
+          (λ none. worth-few few counts to end latest a d l (start inner .pre .4) (coarse-row inner) none) (c .before .may-exceed .ensures (w .0 .left)) in
+          omega arith))
           (w .1))
           (c .if1 .came),
     )
 
 returns : tie.Need-returns Inv-loop μ-loop
 returns c =
-    let args = c .before .before .before .before .before .before .args in
+    let args = c .before .before .before .before .before .before .before .before .before .before .before .before .args in
     let worth = worthIn (args .counts .now) (args .to .now) (args .end .now) (args .latest .now) in
     let loop = c .before .loop in
     let whole : loop .a ≡ args .tasks = omega arith in
@@ -159,10 +215,18 @@ best-pair-spec =
     (tie.spec
     Inv-loop
     μ-loop
+    slice-aggregate-unit-row
+    unit-row-requires
+    slice-aggregate-unit-row-2
+    unit-row-requires-2
     loop-holds
     mul-start
-    most-of-requires
-    cast-if1
+    cut-requires
+    mul-may-exceed
+    shared-slice-read-may-exceed
+    slice-aggregate-may-exceed
+    slice-aggregate-may-exceed-2
+    may-exceed-requires
     add-best-counted
     mul-best-counted
     sub-best-counted

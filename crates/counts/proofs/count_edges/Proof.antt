@@ -1,9 +1,8 @@
 -- `counts::count_edges` meets its contract: after j steps the first j edges are counted.
-use mathlib.Core.Path.{_≡_, sym, subst, _∙_}
-use mathlib.Core.Bool.{true≢false}
-use Prim.Native.Nat.{ℕ, _+_, _-_, _≤_, _<_}
+use mathlib.Core.Path.{_≡_, refl, subst, _∙_}
+use Prim.Native.Nat.{ℕ, _-_, _≤_}
 use native.Mathlib.Omega.{arith}
-use lib.ListN.{length, getD}
+use lib.ListN.{length}
 use Rattle.model.specs.Lists.{tabulate}
 use Rattle.records.specs.Columns.{at, heldEdge, edgesOf}
 use Rattle.records.proofs.Edges.{edge-in}
@@ -14,7 +13,7 @@ use Rattle.counts.proofs.count_edges.Tie as tie
 
 abbrev Inv-loop : tie.InvT-loop
 Inv-loop source sink delay from to tasks counts₀ j₀ counts j =
-    (j ≤ length source) × CountsOf tasks from to (tabulate j (heldEdge source sink delay)) counts
+    (j ≤ length source) × CountsOf tasks from to (tabulate j (heldEdge source sink delay)) counts × (length counts ≡ length counts₀)
 
 abbrev μ-loop : tie.MeasureT-loop
 μ-loop source sink delay from to tasks counts₀ j₀ counts j = length source - j
@@ -23,42 +22,42 @@ loop-holds : tie.Need-loop-holds Inv-loop μ-loop
 loop-holds c =
     let args = c .before .before .before .before .before .before .args in
     let asked = c .before .before .before .before .before .before .pre in
-    (omega arith, counts-none (args .source .now) (args .sink .now) (args .delay .now) (args .tasks) (args .from .now) (args .to .now) (asked .1 .0 .2) (asked .1 .1 .1))
+    (omega arith, counts-none (args .source .now) (args .sink .now) (args .delay .now) (args .tasks) (args .from .now) (args .to .now) (asked .1 .0 .2) (asked .1 .1 .1), refl)
 
-shared-slice-read-shift-edge : tie.Need-shared-slice-read-shift-edge Inv-loop μ-loop
-shared-slice-read-shift-edge c = omega (arith, c .before .before .before .before .before .before .before .before .before .pre .0)
+shared-slice-read-count-edge : tie.Need-shared-slice-read-count-edge Inv-loop μ-loop
+shared-slice-read-count-edge c = omega (arith, c .before .before .before .before .before .before .before .before .before .pre .0)
 
-cast-shift-edge : tie.Need-cast-shift-edge Inv-loop μ-loop
-cast-shift-edge c = omega (arith, c .shared-slice-known6 .given (c .before .before .loop .j))
+cast-count-edge : tie.Need-cast-count-edge Inv-loop μ-loop
+cast-count-edge c = omega (arith, c .shared-slice-known6 .given (c .before .before .loop .j))
 
-shared-slice-read-shift-edge-2 : tie.Need-shared-slice-read-shift-edge-2 Inv-loop μ-loop
-shared-slice-read-shift-edge-2 c = omega (arith, c .before .before .before .before .before .before .before .before .before .before .pre .0)
+shared-slice-read-count-edge-2 : tie.Need-shared-slice-read-count-edge-2 Inv-loop μ-loop
+shared-slice-read-count-edge-2 c = omega (arith, c .before .before .before .before .before .before .before .before .before .before .pre .0)
 
-cast-shift-edge-2 : tie.Need-cast-shift-edge-2 Inv-loop μ-loop
-cast-shift-edge-2 c = omega (arith, c .shared-slice-known7 .given (c .before .before .before .loop .j))
+cast-count-edge-2 : tie.Need-cast-count-edge-2 Inv-loop μ-loop
+cast-count-edge-2 c = omega (arith, c .shared-slice-known7 .given (c .before .before .before .loop .j))
 
-shared-slice-read-shift-edge-3 : tie.Need-shared-slice-read-shift-edge-3 Inv-loop μ-loop
-shared-slice-read-shift-edge-3 c = omega (arith, c .before .before .before .before .before .before .before .before .before .before .before .pre .0)
+shared-slice-read-count-edge-3 : tie.Need-shared-slice-read-count-edge-3 Inv-loop μ-loop
+shared-slice-read-count-edge-3 c = omega (arith, c .before .before .before .before .before .before .before .before .before .before .before .pre .0)
 
-cast-shift-edge-3 : tie.Need-cast-shift-edge-3 Inv-loop μ-loop
-cast-shift-edge-3 c = omega (arith, c .shared-slice-known8 .given (c .before .before .before .before .loop .j))
+cast-count-edge-3 : tie.Need-cast-count-edge-3 Inv-loop μ-loop
+cast-count-edge-3 c = omega (arith, c .shared-slice-known8 .given (c .before .before .before .before .loop .j))
 
-add-shift-edge : tie.Need-add-shift-edge Inv-loop μ-loop
-add-shift-edge c = omega (arith, c .shared-slice-known8 .given (c .before .before .before .before .loop .j))
+add-count-edge : tie.Need-add-count-edge Inv-loop μ-loop
+add-count-edge c = omega (arith, c .shared-slice-known8 .given (c .before .before .before .before .loop .j))
 
-shift-edge-requires : tie.Need-shift-edge-requires Inv-loop μ-loop
+count-edge-requires : tie.Need-count-edge-requires Inv-loop μ-loop
 unfolding heldEdge
-shift-edge-requires c κs =
+count-edge-requires c κs =
     let args = c .before .before .before .before .before .before .before .before .before .before .before .before .args in
     let asked = c .before .before .before .before .before .before .before .before .before .before .before .before .pre in
     let loop = c .before .before .before .before .before .loop in
     let below = c .before .before .before .before .loop-test .taken in
     let ends = asked .1 .1 .0 .1 (heldEdge (args .source .now) (args .sink .now) (args .delay .now) (loop .j)) (edge-in (args .source .now) (args .sink .now) (args .delay .now) (loop .j) below) in
     let few = asked .1 .1 .0 .0 in (
-      (asked .1 .0 .0, asked .1 .0 .1, asked .1 .0 .0, asked .1 .0 .1),
+      (asked .1 .0 .0, asked .1 .0 .1, loop .inv .1 .size),
       (
-        (few, omega (arith, ends, few), omega (arith, ends, few), loop .inv .1 .size),
-        ((λ q. absurd (true≢false (sym q))), counts-covered (args .source .now) (args .sink .now) (args .delay .now) (args .tasks) (args .from .now) (args .to .now) (loop .j) (loop .inv .1) (omega (arith, asked .0, below)) _ _),
+        (few, ends .0, ends .1),
+        counts-covered (args .source .now) (args .sink .now) (args .delay .now) (args .tasks) (args .from .now) (args .to .now) (loop .j) (loop .inv .1) (omega (arith, asked .0, below)) _ _,
       ),
     )
 
@@ -71,11 +70,14 @@ loop-less c = omega arith
 loop-again : tie.Need-loop-again Inv-loop μ-loop
 unfolding at
 loop-again c =
-    let args = c .before .before .before .before .before .before .before .before .before .before .before .before .before .before .before .args in
-    (omega arith, counts-more (args .source .now) (args .sink .now) (args .delay .now) (args .tasks) (args .from .now) (args .to .now) (c .before .before .before .before .before .before .before .before .loop .j) (c .before .before .before .before .before .before .before .before .loop .inv .1) (c .before .before .shift-edge .ensures))
+    let args = c .before .before .before .before .before .before .before .before .before .before .before .before .before .before .before .args in (
+      omega arith,
+      counts-more (args .source .now) (args .sink .now) (args .delay .now) (args .tasks) (args .from .now) (args .to .now) (c .before .before .before .before .before .before .before .before .loop .j) (c .before .before .before .before .before .before .before .before .loop .inv .1) (c .before .before .count-edge .ensures),
+      c .before .before .count-edge .ensures .size ∙ c .before .before .before .before .before .before .before .before .loop .inv .2,
+    )
 
 same-length : tie.Need-same-length Inv-loop μ-loop
-same-length c = c .before .loop .inv .1 .size ∙ sym (c .before .before .before .before .before .before .before .before .pre .1 .0 .2)
+same-length c = c .before .loop .inv .2
 
 returns : tie.Need-returns Inv-loop μ-loop
 unfolding edgesOf
@@ -92,14 +94,14 @@ count-edges-spec =
     Inv-loop
     μ-loop
     loop-holds
-    shared-slice-read-shift-edge
-    cast-shift-edge
-    shared-slice-read-shift-edge-2
-    cast-shift-edge-2
-    shared-slice-read-shift-edge-3
-    cast-shift-edge-3
-    add-shift-edge
-    shift-edge-requires
+    shared-slice-read-count-edge
+    cast-count-edge
+    shared-slice-read-count-edge-2
+    cast-count-edge-2
+    shared-slice-read-count-edge-3
+    cast-count-edge-3
+    add-count-edge
+    count-edge-requires
     add-j
     loop-less
     loop-again

@@ -1,29 +1,26 @@
 -- `counts::moves` meets its contract, by the cases of its tests.
-use mathlib.Core.Path.{_≡_, sym}
+use mathlib.Core.Path.{_≡_}
 use mathlib.Core.Logic.{inl, inr}
-use mathlib.Core.Bool.{Bool, true, false, not, true≢false}
+use mathlib.Core.Bool.{true}
 use Prim.Native.Nat.{ℕ}
 use native.Mathlib.Omega.{arith}
-use lib.Dec.{T, eqb, eqb→eq}
 use Rattle.counts.proofs.moves.Statement.{statement}
 use Rattle.counts.proofs.moves.Tie as tie
 
--- numbers that are told not to differ are equal
-same-number : (x y : ℕ) → not (eqb x y) ≡ false → x ≡ y
-same-number x y q = go (eqb x y) (eqb→eq x y) q
-  where
-    go : (b : Bool) → (T b → x ≡ y) → not b ≡ false → x ≡ y
-    go true is q = is tt
-    go false is q = absurd (true≢false q)
-
 returns : tie.Need-returns
-returns c = λ q. inl (c .if1 .taken, same-number (c .before .args .old) (c .before .args .new) q)
+returns c = λ q. inl (c .before .if1 .taken, c .if2 .taken)
 
 returns-2 : tie.Need-returns-2
-returns-2 c = λ q. absurd (true≢false q)
+returns-2 c = λ q. absurd (omega arith)
 
 returns-3 : tie.Need-returns-3
-returns-3 c = λ q. inr (omega arith, same-number (c .before .before .args .new) 0 q)
+returns-3 c = λ q. absurd (omega arith)
+
+returns-4 : tie.Need-returns-4
+returns-4 c = λ q. absurd (omega arith)
+
+returns-5 : tie.Need-returns-5
+returns-5 c = λ q. inr (omega arith, omega arith)
 
 pub moves-spec : {M : Type 1} → statement M
 moves-spec =
@@ -31,4 +28,6 @@ moves-spec =
     (tie.spec
     returns
     returns-2
-    returns-3)
+    returns-3
+    returns-4
+    returns-5)

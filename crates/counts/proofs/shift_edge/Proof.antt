@@ -1,90 +1,129 @@
 -- `counts::shift_edge` meets its contract: after a steps the edge is counted anew for the pairs out of the first a tasks.
-use mathlib.Core.Path.{_≡_, sym, subst}
+use mathlib.Core.Path.{_≡_, refl, sym, subst}
 use mathlib.Core.Logic.{⊎-elim}
 use mathlib.Core.List.{List}
 use Prim.Native.Nat.{ℕ, _+_, _-_, _*_, _≤_, _<_}
 use native.Mathlib.Omega.{arith}
-use lib.ListN.{length}
-use borrow.Author.Needs.{needs}
 use Rattle.records.specs.Columns.{at}
-use Rattle.counts.specs.Counts.{EdgeShifted}
+use Rattle.counts.specs.Counts.{EdgeShifted, LeftRow, RowsMarked}
 use Rattle.counts.proofs.Shifts.{edge-none, edge-covered, edge-moved, edge-passed}
 use Rattle.counts.proofs.shift_edge.Statement.{statement}
 use Rattle.counts.proofs.shift_edge.Tie as tie
 
 abbrev Inv-loop : tie.InvT-loop
-Inv-loop from to next-from next-to source sink limit next-limit same tasks counts₀ a₀ counts a =
+Inv-loop from to next-from next-to source sink limit next-limit same tasks counts₀ old new marks a₀ counts a =
     (a ≤ tasks) × EdgeShifted from to next-from next-to source sink limit next-limit a counts₀ counts
 
 abbrev μ-loop : tie.MeasureT-loop
-μ-loop from to next-from next-to source sink limit next-limit same tasks counts₀ a₀ counts a = tasks - a
+μ-loop from to next-from next-to source sink limit next-limit same tasks counts₀ old new marks a₀ counts a =
+    tasks - a
+
+-- what is known when the rows are marked
+abbrev begin : tie.After-marks2 Inv-loop μ-loop → tie.Start Inv-loop μ-loop
+begin c = c .before .before .before .before .before .before .before .before .before .before .before .before .before .before .before .before
+
+old-left :
+    (c : tie.After-marks2 Inv-loop μ-loop)
+    → LeftRow (begin c .args .from .now) (begin c .args .source * 64) (begin c .args .limit) 64 (c .before .before .before .before .before .before .before .before .before .left-row .last .1 .1 .1 .0)
+old-left c = c .before .before .before .before .before .before .before .before .before .left-row .ensures
+
+new-left :
+    (c : tie.After-marks2 Inv-loop μ-loop)
+    → LeftRow (begin c .args .next-from .now) (begin c .args .source * 64) (begin c .args .next-limit) 64 (c .before .before .before .before .before .before .left-row2 .last .1 .1 .1 .0)
+new-left c = c .before .before .before .before .before .before .left-row2 .ensures
+
+marked :
+    (c : tie.After-marks2 Inv-loop μ-loop)
+    → RowsMarked (c .before .before .before .before .before .before .before .before .before .left-row .last .1 .1 .1 .0) (c .before .before .before .before .before .before .left-row2 .last .1 .1 .1 .0) (begin c .args .same) 64
+    (c .before .mark-rows .last .1 .1 .1 .0)
+marked c = c .before .mark-rows .ensures
+
+mul-left-row : tie.Need-mul-left-row Inv-loop μ-loop
+mul-left-row c = omega (arith, c .before .before .before .before .before .pre .1)
+
+slice-aggregate-left-row : tie.Need-slice-aggregate-left-row Inv-loop μ-loop
+slice-aggregate-left-row c = refl
+
+left-row-requires : tie.Need-left-row-requires Inv-loop μ-loop
+left-row-requires c κs =
+    let asked = c .before .before .before .before .before .before .pre in
+    (omega (arith, asked .0 .0, asked .1 .0 .1), omega (arith, asked .1 .0), refl)
+
+mul-left-row-2 : tie.Need-mul-left-row-2 Inv-loop μ-loop
+mul-left-row-2 c = omega (arith, c .before .before .before .before .before .before .before .before .pre .1)
+
+slice-aggregate-left-row-2 : tie.Need-slice-aggregate-left-row-2 Inv-loop μ-loop
+slice-aggregate-left-row-2 c = refl
+
+left-row-requires-2 : tie.Need-left-row-requires-2 Inv-loop μ-loop
+left-row-requires-2 c κs =
+    let asked = c .before .before .before .before .before .before .before .before .before .pre in
+    (omega (arith, asked .0 .2, asked .1 .0 .1), omega (arith, asked .1 .0), refl)
+
+slice-aggregate-mark-rows : tie.Need-slice-aggregate-mark-rows Inv-loop μ-loop
+slice-aggregate-mark-rows c = sym (c .before .before .before .before .before .left-row .ensures .size)
+
+slice-aggregate-mark-rows-2 : tie.Need-slice-aggregate-mark-rows-2 Inv-loop μ-loop
+slice-aggregate-mark-rows-2 c = sym (c .before .before .before .left-row2 .ensures .size)
+
+slice-aggregate-mark-rows-3 : tie.Need-slice-aggregate-mark-rows-3 Inv-loop μ-loop
+slice-aggregate-mark-rows-3 c = refl
+
+mark-rows-requires : tie.Need-mark-rows-requires Inv-loop μ-loop
+mark-rows-requires c κs = (c .before .before .before .before .before .before .before .left-row .ensures .size, c .before .before .before .before .left-row2 .ensures .size, refl)
 
 loop-holds : tie.Need-loop-holds Inv-loop μ-loop
 loop-holds c =
-    let args = c .before .before .before .before .before .args in
+    let args = begin c .args in
     (omega arith, edge-none (args .from .now) (args .to .now) (args .next-from .now) (args .next-to .now) (args .source) (args .sink) (args .limit) (args .next-limit) (args .counts .now))
 
-mul-left-of : tie.Need-mul-left-of Inv-loop μ-loop
-mul-left-of c = omega (arith, c .before .before .before .before .before .before .before .pre .0, c .before .before .before .before .before .before .before .pre .1)
+mul-if1 : tie.Need-mul-if1 Inv-loop μ-loop
+mul-if1 c = omega (arith, begin (c .before .before) .pre .1 .0 .0)
 
-add-left-of : tie.Need-add-left-of Inv-loop μ-loop
-add-left-of c = omega (arith, c .before .before .before .before .before .before .before .pre .0, c .before .before .before .before .before .before .before .pre .1)
-
-mul-left-of-2 : tie.Need-mul-left-of-2 Inv-loop μ-loop
-mul-left-of-2 c = omega (arith, c .before .before .before .before .before .before .before .pre .0, c .before .before .before .before .before .before .before .pre .1)
-
-shared-slice-read-left-of : tie.Need-shared-slice-read-left-of Inv-loop μ-loop
-shared-slice-read-left-of c = omega (arith, c .before .before .before .before .before .before .before .before .pre .0, c .before .before .before .before .before .before .before .before .pre .1)
-
-left-of-requires : tie.Need-left-of-requires Inv-loop μ-loop
-left-of-requires c κs = search needs
-
-mul-left-of-3 : tie.Need-mul-left-of-3 Inv-loop μ-loop
-mul-left-of-3 c = omega (arith, c .before .before .before .before .before .before .before .before .before .pre .0, c .before .before .before .before .before .before .before .before .before .pre .1)
-
-add-left-of-2 : tie.Need-add-left-of-2 Inv-loop μ-loop
-add-left-of-2 c = omega (arith, c .before .before .before .before .before .before .before .before .before .pre .0, c .before .before .before .before .before .before .before .before .before .pre .1)
-
-mul-left-of-4 : tie.Need-mul-left-of-4 Inv-loop μ-loop
-mul-left-of-4 c = omega (arith, c .before .before .before .before .before .before .before .before .before .pre .0, c .before .before .before .before .before .before .before .before .before .pre .1)
-
-shared-slice-read-left-of-2 : tie.Need-shared-slice-read-left-of-2 Inv-loop μ-loop
-shared-slice-read-left-of-2 c = omega (arith, c .before .before .before .before .before .before .before .before .before .before .pre .0, c .before .before .before .before .before .before .before .before .before .before .pre .1)
-
-left-of-requires-2 : tie.Need-left-of-requires-2 Inv-loop μ-loop
-left-of-requires-2 c κs = search needs
-
-moves-requires : tie.Need-moves-requires Inv-loop μ-loop
-moves-requires c κs = search needs
+array-read-if1 : tie.Need-array-read-if1 Inv-loop μ-loop
+array-read-if1 c = omega (arith, begin (c .before .before) .pre .1 .0 .0)
 
 mul-shift-row : tie.Need-mul-shift-row Inv-loop μ-loop
-mul-shift-row c = omega (arith, c .before .before .before .before .before .before .before .before .before .before .before .before .before .pre .0, c .before .before .before .before .before .before .before .before .before .before .before .before .before .pre .1)
+mul-shift-row c = omega (arith, begin (c .before .before .before) .pre .1 .0)
 
 mul-shift-row-2 : tie.Need-mul-shift-row-2 Inv-loop μ-loop
-mul-shift-row-2 c = omega (arith, c .before .before .before .before .before .before .before .before .before .before .before .before .before .pre .0, c .before .before .before .before .before .before .before .before .before .before .before .before .before .pre .1)
+mul-shift-row-2 c = omega (arith, begin (c .before .before .before) .pre .1 .0 .0)
+
+array-read-shift-row : tie.Need-array-read-shift-row Inv-loop μ-loop
+array-read-shift-row c = omega (arith, begin (c .before .before .before) .pre .1 .0 .0)
+
+mul-shift-row-3 : tie.Need-mul-shift-row-3 Inv-loop μ-loop
+mul-shift-row-3 c = omega (arith, begin (c .before .before .before) .pre .1 .0 .0)
+
+array-read-shift-row-2 : tie.Need-array-read-shift-row-2 Inv-loop μ-loop
+array-read-shift-row-2 c = omega (arith, begin (c .before .before .before) .pre .1 .0 .0)
+
+mul-shift-row-4 : tie.Need-mul-shift-row-4 Inv-loop μ-loop
+mul-shift-row-4 c = omega (arith, begin (c .before .before .before) .pre .1 .0 .0)
 
 shift-row-requires : tie.Need-shift-row-requires Inv-loop μ-loop
 unfolding at
 shift-row-requires c κs =
-    let args = c .before .before .before .before .before .before .before .before .before .before .before .before .before .before .args in
-    let asked = c .before .before .before .before .before .before .before .before .before .before .before .before .before .before .pre in
-    let loop = c .before .before .before .before .before .before .before .before .loop in
-    let below = c .before .before .before .before .before .before .before .loop-test .taken in
+    let inner = c .before .before in
+    let made = inner .before .before in
+    let args = begin made .args in
+    let asked = begin made .pre in
+    let loop = inner .before .loop in
+    let below = inner .loop-test .taken in
     let size = loop .inv .1 .size in (
       (
         omega (arith, asked .0 .1, asked .1 .0 .2),
         omega (arith, asked .0 .3, asked .1 .0 .2),
         omega (arith, asked .1 .0, size, below),
-        omega (arith, asked .1 .0, size),
-        asked .0 .1,
-        asked .0 .3,
+        omega (arith, asked .1 .0),
+        omega (arith, asked .1 .0 .0, below),
       ),
       edge-covered (args .from .now) (args .to .now) (args .next-from .now) (args .next-to .now) (args .source) (args .sink) (args .limit) (args .next-limit)
-          (loop .inv .1) (asked .1 .1 .1) below (c .before .before .before .before .before .left-of .ensures),
+          (loop .inv .1) (asked .1 .1 .1) below (old-left made .each (loop .a) (omega (arith, asked .1 .0 .0))),
     )
 
 add-a : tie.Need-add-a Inv-loop μ-loop
-add-a c = omega (arith, c .before .before .before .before .before .before .before .before .before .before .before .before .before .pre .1 .0)
+add-a c = omega (arith, begin (c .before .before .before) .pre .1 .0 .0)
 
 loop-less : tie.Need-loop-less Inv-loop μ-loop
 loop-less c = omega arith
@@ -92,11 +131,14 @@ loop-less c = omega arith
 loop-again : tie.Need-loop-again Inv-loop μ-loop
 unfolding at
 loop-again c =
-    let args = c .before .before .before .before .before .before .before .before .before .before .before .before .before .args in
-    let asked = c .before .before .before .before .before .before .before .before .before .before .before .before .before .pre in
-    let loop = c .before .before .before .before .before .before .before .loop in
-    let old = c .before .before .before .before .left-of .ensures in
-    let new = c .before .before .left-of2 .ensures in
+    let inner = c .before in
+    let made = inner .before .before in
+    let args = begin made .args in
+    let asked = begin made .pre in
+    let loop = inner .before .loop in
+    let few : loop .a < 64 = omega (arith, asked .1 .0 .0) in
+    let old = old-left made .each (loop .a) few in
+    let new = new-left made .each (loop .a) few in
     let Next : List ℕ → Type 0
     = λ after.
     EdgeShifted (args .from .now) (args .to .now) (args .next-from .now) (args .next-to .now) (args .source) (args .sink) (args .limit) (args .next-limit)
@@ -110,7 +152,7 @@ loop-again c =
           (λ w.
           subst Next (sym (w .1))
           (edge-passed (args .from .now) (args .to .now) (args .next-from .now) (args .next-to .now) (args .source) (args .sink) (args .limit) (args .next-limit)
-          (loop .inv .1) old new (asked .1 .1 .0) (c .before .moves .ensures (w .0 .left))))
+          (loop .inv .1) old new (asked .1 .1 .0) (marked made .each (loop .a) few (omega (arith, w .0 .left)))))
           (c .if1 .came),
     )
 
@@ -119,7 +161,7 @@ same-length c = c .before .loop .inv .1 .size
 
 returns : tie.Need-returns Inv-loop μ-loop
 returns c =
-    let args = c .before .before .before .before .before .before .before .args in
+    let args = begin (c .before .before) .args in
     let whole : c .before .loop .a ≡ args .tasks = omega arith in
     subst
     (λ (a : ℕ).
@@ -132,20 +174,25 @@ shift-edge-spec =
     (tie.spec
     Inv-loop
     μ-loop
+    mul-left-row
+    slice-aggregate-left-row
+    left-row-requires
+    mul-left-row-2
+    slice-aggregate-left-row-2
+    left-row-requires-2
+    slice-aggregate-mark-rows
+    slice-aggregate-mark-rows-2
+    slice-aggregate-mark-rows-3
+    mark-rows-requires
     loop-holds
-    mul-left-of
-    add-left-of
-    mul-left-of-2
-    shared-slice-read-left-of
-    left-of-requires
-    mul-left-of-3
-    add-left-of-2
-    mul-left-of-4
-    shared-slice-read-left-of-2
-    left-of-requires-2
-    moves-requires
+    mul-if1
+    array-read-if1
     mul-shift-row
     mul-shift-row-2
+    array-read-shift-row
+    mul-shift-row-3
+    array-read-shift-row-2
+    mul-shift-row-4
     shift-row-requires
     add-a
     loop-less

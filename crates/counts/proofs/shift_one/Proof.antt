@@ -1,8 +1,6 @@
 -- `counts::shift_one` meets its contract: what the pair subsumes is dropped, and where no delay fell to the edge's own, its shares stay.
-use mathlib.Core.Path.{_≡_, sym, _∙_}
+use mathlib.Core.Path.{sym, _∙_}
 use mathlib.Core.Bool.{true, false, true≢false}
-use Prim.Native.Nat.{ℕ, _+_, _<_}
-use native.Mathlib.Omega.{arith}
 use borrow.Author.Tests.{ltb-true}
 use Rattle.records.specs.Columns.{at}
 use Rattle.counts.proofs.Totals.{same-tests, edge-same, edge-dropped, edge-stays}
@@ -22,7 +20,7 @@ shift-edge-requires c κs =
     let few = asked .1 .1 .1 .0 in (
       asked .0,
       (
-        (few .0, omega (arith, few), omega (arith, few), few .5),
+        (few .0, few .3, few .4, few .5),
         ((λ q. absurd (true≢false (sym q))), asked .1 .1 .1 .1),
       ),
     )
@@ -69,7 +67,7 @@ shift-edge-requires-2 c κs =
     let few = asked .1 .1 .1 .0 in (
       asked .0,
       (
-        (few .0, omega (arith, few), omega (arith, few), few .5),
+        (few .0, few .3, few .4, few .5),
         ((λ q. same-tests (asked .1 .1 .0 .0) (asked .1 .1 .0 .1) (args .sink) (args .delay) (few .4) (ltb-true (args .delay) (at (args .fell-to .now) (args .sink)) q)), asked .1 .1 .1 .1),
       ),
     )

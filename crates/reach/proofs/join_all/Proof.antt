@@ -1,4 +1,4 @@
--- `reach::join_all` meets its contract: after k rounds the paths whose inner tasks are below k count.
+-- `reach::join_all` meets its contract: after k rounds the paths whose inner count are below k count.
 use mathlib.Core.Path.{_≡_, sym, _∙_}
 use mathlib.Core.List.{List}
 use Prim.Native.Nat.{_-_, _≤_}
@@ -11,11 +11,11 @@ use Rattle.reach.proofs.join_all.Statement.{statement}
 use Rattle.reach.proofs.join_all.Tie as tie
 
 abbrev Inv-loop : tie.InvT-loop
-Inv-loop tasks words₀ k₀ words k =
-    (k ≤ tasks) × (length words ≡ 64) × ((es : List Edge) → Through 0 tasks es words₀ → Through k tasks es words)
+Inv-loop count words₀ k₀ words k =
+    (k ≤ count) × (length words ≡ 16) × ((es : List Edge) → Through 0 count es words₀ → Through k count es words)
 
 abbrev μ-loop : tie.MeasureT-loop
-μ-loop tasks words₀ k₀ words k = tasks - k
+μ-loop count words₀ k₀ words k = count - k
 
 loop-holds : tie.Need-loop-holds Inv-loop μ-loop
 loop-holds c = (omega arith, c .before .pre .1, λ es held. held)
@@ -38,7 +38,7 @@ same-length c = c .before .loop .inv .1 ∙ sym (c .before .before .before .pre 
 
 returns : tie.Need-returns Inv-loop μ-loop
 returns c =
-    let whole : c .before .loop .k ≡ c .before .before .before .args .tasks = omega arith in
+    let whole : c .before .loop .k ≡ c .before .before .before .args .count = omega arith in
     λ es held. through-all (c .before .loop .inv .2 es held) whole
 
 pub join-all-spec : {M : Type 1} → statement M

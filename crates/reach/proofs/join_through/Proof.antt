@@ -7,10 +7,10 @@ use Rattle.reach.proofs.join_through.Statement.{statement}
 use Rattle.reach.proofs.join_through.Tie as tie
 
 abbrev Inv-loop : tie.InvT-loop
-Inv-loop k tasks words₀ row a₀ words a = (a ≤ tasks) × PartJoined a k words₀ words
+Inv-loop k count words₀ row a₀ words a = (a ≤ count) × PartJoined a k words₀ words
 
 abbrev μ-loop : tie.MeasureT-loop
-μ-loop k tasks words₀ row a₀ words a = tasks - a
+μ-loop k count words₀ row a₀ words a = count - a
 
 mul-row : tie.Need-mul-row Inv-loop μ-loop
 mul-row c = omega (arith, c .before .pre .0, c .before .pre .1)

@@ -3,18 +3,19 @@ use borrow.Author.Needs.{needs}
 use lib.ListN.{length}
 use Rattle.records.specs.Columns.{edgesOf}
 use Rattle.reach.specs.Reach.{processorsOf}
+use Rattle.reach.proofs.Rounds.{through-fewer}
 use Rattle.reach.proofs.Processors.{ends-held, reaches-on}
 use Rattle.reach.proofs.paths_between_processors.Statement.{statement}
 use Rattle.reach.proofs.paths_between_processors.Tie as tie
-
-no-paths-requires : tie.Need-no-paths-requires
-no-paths-requires c κs = search needs
 
 slice-aggregate-take-between : tie.Need-slice-aggregate-take-between
 slice-aggregate-take-between c = search needs
 
 take-between-requires : tie.Need-take-between-requires
 take-between-requires c κs = search needs
+
+processors-used-requires : tie.Need-processors-used-requires
+processors-used-requires c κs = c .before .before .before .before .before .before .pre .1 .1
 
 slice-aggregate-join-all : tie.Need-slice-aggregate-join-all
 slice-aggregate-join-all c = search needs
@@ -24,21 +25,24 @@ join-all-requires c κs = search needs
 
 returns : tie.Need-returns
 returns c =
-    let source = c .before .before .before .before .before .before .before .before .before .before .before .args .source .now in
-    let sink = c .before .before .before .before .before .before .before .before .before .before .before .args .sink .now in
-    let processor = c .before .before .before .before .before .before .before .before .before .before .before .args .processor .now in
-    let asked = c .before .before .before .before .before .before .before .before .before .before .before .pre in
+    let source = c .before .before .before .before .before .before .before .before .before .before .args .source .now in
+    let sink = c .before .before .before .before .before .before .before .before .before .before .args .sink .now in
+    let processor = c .before .before .before .before .before .before .before .before .before .before .args .processor .now in
+    let asked = c .before .before .before .before .before .before .before .before .before .before .pre in
+    let used = c .before .before .before .processors-used .ensures in
     λ delay circled.
-    reaches-on source sink delay processor (length processor) (asked .0) (ends-held source sink delay (length processor) (asked .1 .0)) (asked .1 .1) circled
-    (c .before .join-all .ensures (edgesOf (processorsOf processor source) (processorsOf processor sink) delay) (c .before .before .before .before .take-between .ensures delay))
+    reaches-on source sink delay processor (length processor) (c .before .before .before .processors-used .result) (asked .0)
+    (ends-held source sink delay (length processor) (asked .1 .0)) (used .1) circled
+    (c .before .join-all .ensures (edgesOf (processorsOf processor source) (processorsOf processor sink) delay)
+    (through-fewer (used .0) (c .before .before .before .before .before .take-between .ensures delay)))
 
 pub paths-between-processors-spec : {M : Type 1} → statement M
 paths-between-processors-spec =
     tie.close
     (tie.spec
-    no-paths-requires
     slice-aggregate-take-between
     take-between-requires
+    processors-used-requires
     slice-aggregate-join-all
     join-all-requires
     returns)

@@ -104,7 +104,7 @@ loop-again c =
 
 same-length : tie.Need-same-length Inv-loop μ-loop
 same-length c =
-    c .before .loop .inv .1 .room ∙ sym (ap length (c .before .before .before .before .before .before .pre .1 .1 .1) ∙ length-replicate {A = ℕ} 64 0)
+    c .before .loop .inv .1 .room ∙ sym (ap length (c .before .before .before .before .before .before .pre .1 .1 .1) ∙ length-replicate {A = ℕ} 16 0)
 
 returns : tie.Need-returns Inv-loop μ-loop
 returns c =

@@ -1,24 +1,17 @@
 -- `redundancy::is_way` meets its contract: the sum that is compared decides whether the edge is another way.
-use mathlib.Core.Path.{_≡_, ap, _∙_, subst}
+use mathlib.Core.Path.{_≡_, subst}
 use mathlib.Core.Logic.{_⊎_, _≢_}
 use mathlib.Core.List.{List}
 use Prim.Native.Nat.{ℕ, _+_, _*_}
 use native.Mathlib.Omega.{arith}
-use lib.ListN.{length, getD}
+use lib.ListN.{getD}
 use borrow.Author.Needs.{needs}
-use Rattle.records.specs.Columns.{heldEdge, edgesOf}
+use Rattle.records.specs.Columns.{heldEdge}
 use Rattle.records.proofs.Edges.{edge-in}
-use Rattle.redundancy.specs.Redundancy.{Tabled}
-use Rattle.delays.proofs.Table.{table-length}
 use Rattle.redundancy.proofs.Linked.{ends-below}
-use Rattle.redundancy.proofs.Ways.{way-decided}
+use Rattle.redundancy.proofs.Ways.{entries, way-decided}
 use Rattle.redundancy.proofs.is_way.Statement.{statement}
 use Rattle.redundancy.proofs.is_way.Tie as tie
-
--- The table has an entry for every two tasks.
-entries : {n : ℕ} {source sink delay table : List ℕ} → Tabled n source sink delay table → length table ≡ n * n
-entries {n} {source} {sink} {delay} tabled =
-    ap (λ (xs : List ℕ). length xs) (tabled .least) ∙ table-length n (edgesOf source sink delay)
 
 shared-slice-read-next : tie.Need-shared-slice-read-next
 shared-slice-read-next c = search needs

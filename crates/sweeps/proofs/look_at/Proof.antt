@@ -1,8 +1,9 @@
 -- `sweeps::look_at` meets its contract, by its three ends: the task is not marked, its row is as before, or it changed.
+use borrow.Author.Tests.{not-true, not-false}
 use mathlib.Core.Path.{sym, _∙_}
 use native.Mathlib.Omega.{arith}
 use lib.ListN.{length-set}
-use Rattle.sweeps.proofs.Looks.{look-none, look-still, look-fell, some-fall}
+use Rattle.sweeps.proofs.Looks.{look-none, look-still, look-fell}
 use Rattle.sweeps.proofs.look_at.Statement.{statement}
 use Rattle.sweeps.proofs.look_at.Tie as tie
 
@@ -29,7 +30,7 @@ mul-store-row c = omega (arith, c .before .before .before .before .before .befor
 store-row-requires : tie.Need-store-row-requires
 store-row-requires c κs =
     let lowered = c .before .before .before .lowered-row .ensures in
-    ((lowered .size, omega (arith, c .before .before .before .before .before .before .before .before .before .before .before .before .before .before .before .pre .1 .1 .1 .1 .sound .size, c .before .before .before .before .before .before .before .before .before .before .before .before .before .before .before .pre .0 .3)), λ b l. lowered .low b l)
+    (lowered .size, omega (arith, c .before .before .before .before .before .before .before .before .before .before .before .before .before .before .before .pre .1 .1 .1 .1 .sound .size, c .before .before .before .before .before .before .before .before .before .before .before .before .before .before .before .pre .0 .3))
 
 same-length : tie.Need-same-length
 same-length c = c .before .before .before .store-row .ensures .size
@@ -40,7 +41,7 @@ same-length-2 c = length-set (c .before .before .before .before .before .before 
 returns-2 : tie.Need-returns-2
 returns-2 c =
     let start = c .before .before .before .before .before .before .before .before .before .before .before .before .before .before .before .before .before .before .before in
-    look-still (start .args .source .now) (start .args .sink .now) (start .args .delay .now) (start .pre .1 .0) (start .pre .0 .3) (start .pre .1 .1 .1 .1) (c .before .before .before .before .before .before .before .lowered-row .ensures) (c .before .before .before .store-row .ensures) (c .if2 .taken)
+    look-still (start .args .source .now) (start .args .sink .now) (start .args .delay .now) (start .pre .1 .0) (start .pre .0 .3) (start .pre .1 .1 .1 .1) (c .before .before .before .before .before .before .before .lowered-row .ensures) (c .before .before .before .store-row .ensures) (not-true _ (c .if2 .taken))
 
 mul-mark-row : tie.Need-mul-mark-row
 mul-mark-row c = omega (arith, c .before .before .before .before .before .before .before .before .before .before .before .before .before .before .before .before .before .before .before .pre .0 .3, c .before .before .before .before .before .before .before .before .before .before .before .before .before .before .before .before .before .before .before .pre .1 .1 .1 .1 .marks, c .before .before .before .before .before .before .before .before .before .before .before .before .before .before .before .before .before .before .before .pre .1 .1 .1 .1 .sound .size, c .before .before .before .before .before .before .before .before .before .before .before .before .before .before .before .before .before .before .before .pre .1 .1 .1 .0 .size)
@@ -58,7 +59,7 @@ returns-3 : tie.Need-returns-3
 returns-3 c =
     let start = c .before .before .before .before .before .before .before .before .before .before .before .before .before .before .before .before .before .before .before .before .before .before .before in
     let marked = c .before .before .mark-row .ensures in
-    look-fell (start .args .source .now) (start .args .sink .now) (start .args .delay .now) (start .pre .1 .0) (start .pre .0 .3) (start .pre .1 .1 .1 .1) (c .before .before .before .before .before .before .before .before .before .before .before .lowered-row .ensures) (c .before .before .before .before .before .before .before .store-row .ensures) (some-fall (c .before .before .before .before .before .before .before .store-row .result) (c .before .before .before .before .if2 .left)) (start .pre .1 .1 .1 .0) (marked .0) (marked .1)
+    look-fell (start .args .source .now) (start .args .sink .now) (start .args .delay .now) (start .pre .1 .0) (start .pre .0 .3) (start .pre .1 .1 .1 .1) (c .before .before .before .before .before .before .before .before .before .before .before .lowered-row .ensures) (c .before .before .before .before .before .before .before .store-row .ensures) (not-false _ (c .before .before .before .before .if2 .left)) (start .pre .1 .1 .1 .0) (marked .0) (marked .1)
 
 pub look-at-spec : {M : Type 1} → statement M
 look-at-spec =

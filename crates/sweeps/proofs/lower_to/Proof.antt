@@ -1,6 +1,6 @@
 -- `sweeps::lower_to` meets its contract: after b steps b entries are lowered.
-use mathlib.Core.Path.{_≡_, ap, _∙_}
-use Prim.Native.Nat.{ℕ, _+_, _-_, _≤_, _<_, min}
+use mathlib.Core.Path.{_≡_, _∙_}
+use Prim.Native.Nat.{_+_, _-_, _≤_, _<_, min}
 use native.Mathlib.Omega.{arith}
 use borrow.Author.Needs.{needs}
 use lib.ListN.{length, getD}
@@ -19,38 +19,38 @@ loop-holds c =
     let start = c .before .before in
     (omega arith, part-none 0 (λ i. min (getD (start .args .row .now) i 0) (start .args .way + getD (start .args .table .now) (start .args .from + i) 0)) (start .args .row .now))
 
-mul-lesser : tie.Need-mul-lesser Inv-loop μ-loop
-mul-lesser c = omega (arith, c .before .loop .inv .1 .size, c .before .before .before .before .pre .0 .0, c .before .before .before .before .pre .0 .1, c .before .before .before .before .pre .0 .2, c .before .before .before .before .pre .1 (c .before .loop .b) (c .loop-test .taken))
-
-slice-read-lesser : tie.Need-slice-read-lesser Inv-loop μ-loop
-slice-read-lesser c = omega (arith, c .before .before .loop .inv .1 .size, c .before .before .before .before .before .pre .0 .0, c .before .before .before .before .before .pre .0 .1, c .before .before .before .before .before .pre .0 .2, c .before .before .before .before .before .pre .1 (c .before .before .loop .b) (c .before .loop-test .taken))
-
 add-lesser : tie.Need-add-lesser Inv-loop μ-loop
-add-lesser c = omega (arith, c .before .before .loop .inv .1 .size, c .before .before .before .before .before .pre .0 .0, c .before .before .before .before .before .pre .0 .1, c .before .before .before .before .before .pre .0 .2, c .before .before .before .before .before .pre .1 (c .before .before .loop .b) (c .before .loop-test .taken))
+add-lesser c = omega (arith, c .before .before .before .before .pre .0 .1, c .before .before .before .before .fits)
 
-mul-lesser-2 : tie.Need-mul-lesser-2 Inv-loop μ-loop
-mul-lesser-2 c = omega (arith, c .before .before .loop .inv .1 .size, c .before .before .before .before .before .pre .0 .0, c .before .before .before .before .before .pre .0 .1, c .before .before .before .before .before .pre .0 .2, c .before .before .before .before .before .pre .1 (c .before .before .loop .b) (c .before .loop-test .taken))
+mul-lesser : tie.Need-mul-lesser Inv-loop μ-loop
+mul-lesser c = omega (arith, c .before .before .before .before .pre .0 .1)
 
 shared-slice-read-lesser : tie.Need-shared-slice-read-lesser Inv-loop μ-loop
-shared-slice-read-lesser c = omega (arith, c .before .before .before .loop .inv .1 .size, c .before .before .before .before .before .before .pre .0 .0, c .before .before .before .before .before .before .pre .0 .1, c .before .before .before .before .before .before .pre .0 .2, c .before .before .before .before .before .before .pre .1 (c .before .before .before .loop .b) (c .before .before .loop-test .taken))
+shared-slice-read-lesser c = omega (arith, c .before .before .before .before .before .pre .0 .1)
 
 add-lesser-2 : tie.Need-add-lesser-2 Inv-loop μ-loop
-add-lesser-2 c = omega (arith, c .before .before .before .loop .inv .1 .size, c .before .before .before .before .before .before .pre .0 .0, c .before .before .before .before .before .before .pre .0 .1, c .before .before .before .before .before .before .pre .0 .2, c .before .before .before .before .before .before .pre .1 (c .before .before .before .loop .b) (c .before .before .loop-test .taken))
+add-lesser-2 c = omega (arith, c .before .before .before .before .before .pre .0 .0, c .before .before .before .before .before .pre .1 (c .before .before .loop .b) (c .before .loop-test .taken))
+
+mul-lesser-2 : tie.Need-mul-lesser-2 Inv-loop μ-loop
+mul-lesser-2 c = omega (arith, c .before .before .loop .inv .1 .size, c .before .before .before .before .before .pre .0 .2)
+
+slice-read-lesser : tie.Need-slice-read-lesser Inv-loop μ-loop
+slice-read-lesser c = omega (arith, c .before .before .before .loop .inv .1 .size, c .before .before .before .before .before .before .pre .0 .2)
 
 lesser-requires : tie.Need-lesser-requires Inv-loop μ-loop
 lesser-requires c κs = search needs
 
 mul-row : tie.Need-mul-row Inv-loop μ-loop
-mul-row c = omega (arith, c .before .before .before .before .loop .inv .1 .size, c .before .before .before .before .before .before .before .pre .0 .0, c .before .before .before .before .before .before .before .pre .0 .1, c .before .before .before .before .before .before .before .pre .0 .2, c .before .before .before .before .before .before .before .pre .1 (c .before .before .before .before .loop .b) (c .before .before .before .loop-test .taken))
+mul-row c = omega (arith, c .before .before .before .before .loop .inv .1 .size, c .before .before .before .before .before .before .before .pre .0 .2)
 
 slice-write-row : tie.Need-slice-write-row Inv-loop μ-loop
-slice-write-row c = omega (arith, c .before .before .before .before .loop .inv .1 .size, c .before .before .before .before .before .before .before .pre .0 .0, c .before .before .before .before .before .before .before .pre .0 .1, c .before .before .before .before .before .before .before .pre .0 .2, c .before .before .before .before .before .before .before .pre .1 (c .before .before .before .before .loop .b) (c .before .before .before .loop-test .taken))
+slice-write-row c = omega (arith, c .before .before .before .before .loop .inv .1 .size, c .before .before .before .before .before .before .before .pre .0 .2)
 
 add-b : tie.Need-add-b Inv-loop μ-loop
-add-b c = omega (arith, c .before .before .before .before .loop .inv .1 .size, c .before .before .before .before .before .before .before .pre .0 .0, c .before .before .before .before .before .before .before .pre .0 .1, c .before .before .before .before .before .before .before .pre .0 .2, c .before .before .before .before .before .before .before .pre .1 (c .before .before .before .before .loop .b) (c .before .before .before .loop-test .taken))
+add-b c = omega arith
 
 loop-less : tie.Need-loop-less Inv-loop μ-loop
-loop-less c = omega (arith, c .before .before .before .before .loop .inv .1 .size, c .before .before .before .before .before .before .before .pre .0 .0, c .before .before .before .before .before .before .before .pre .0 .1, c .before .before .before .before .before .before .before .pre .0 .2, c .before .before .before .before .before .before .before .pre .1 (c .before .before .before .before .loop .b) (c .before .before .before .loop-test .taken))
+loop-less c = omega arith
 
 loop-again : tie.Need-loop-again Inv-loop μ-loop
 loop-again c =
@@ -59,7 +59,9 @@ loop-again c =
     let b = c .before .before .before .before .loop .b in
     let place : b ≡ 0 + b = omega arith in
     let inside : b < length (c .before .before .before .before .loop .row) = omega (arith, inv .1 .size, start .pre .0 .2) in
-    (omega arith, part-more (inv .1) b (c .lesser .result) place inside (c .lesser .ensures ∙ ap (λ (x : ℕ). min x (start .args .way + getD (start .args .table .now) (start .args .from + b) 0)) (part-next (inv .1) b place)))
+    let entry : c .lesser .result ≡ min (getD (start .args .row .now) b 0) (start .args .way + getD (start .args .table .now) (start .args .from + b) 0) =
+    omega (arith, c .lesser .ensures, part-next (inv .1) b place) in
+    (omega arith, part-more (inv .1) b (c .lesser .result) place inside entry)
 
 same-length : tie.Need-same-length Inv-loop μ-loop
 same-length c = c .before .loop .inv .1 .size
@@ -76,12 +78,12 @@ lower-to-spec =
     Inv-loop
     μ-loop
     loop-holds
-    mul-lesser
-    slice-read-lesser
     add-lesser
-    mul-lesser-2
+    mul-lesser
     shared-slice-read-lesser
     add-lesser-2
+    mul-lesser-2
+    slice-read-lesser
     lesser-requires
     mul-row
     slice-write-row

@@ -1,24 +1,25 @@
 -- `updates::copy` meets its contract: after i steps the lists agree in the first i places.
-use mathlib.Core.Path.{_≡_, refl, sym, ap, _∙_, subst}
+use mathlib.Core.Path.{_≡_, refl, sym, _∙_, subst}
 use mathlib.Core.Logic.{_⊎_, inl, inr}
 use mathlib.Core.List.{List}
 use Prim.Native.Nat.{ℕ, _+_, _-_, _≤_, _<_}
 use native.Mathlib.Omega.{arith}
 use native.Mathlib.Nat.{not-suc-le-zero}
 use lib.ListN.{length, getD, set, length-set}
-use lib.Seq.{ext-getD, getD-set-same, getD-set-other}
+use lib.Seq.{getD-set-same, getD-set-other}
 use Rattle.model.proofs.Basics.{order}
+use Rattle.records.specs.Columns.{at}
 use Rattle.updates.proofs.copy.Statement.{statement}
 use Rattle.updates.proofs.copy.Tie as tie
 
 abbrev Inv-loop : tie.InvT-loop
-Inv-loop from to₀ i₀ to i = (i ≤ length from) × (length to ≡ length from) × ((j : ℕ) → j < i → getD to j 0 ≡ getD from j 0)
+Inv-loop from count to₀ i₀ to i = (i ≤ count) × (length to ≡ length to₀) × ((j : ℕ) → j < i → getD to j 0 ≡ getD from j 0)
 
 abbrev μ-loop : tie.MeasureT-loop
-μ-loop from to₀ i₀ to i = length from - i
+μ-loop from count to₀ i₀ to i = count - i
 
 loop-holds : tie.Need-loop-holds Inv-loop μ-loop
-loop-holds c = (omega arith, c .pre, λ j l. absurd (not-suc-le-zero l))
+loop-holds c = (omega arith, refl, λ j l. absurd (not-suc-le-zero l))
 
 mul-to : tie.Need-mul-to Inv-loop μ-loop
 mul-to c = omega arith
@@ -59,12 +60,11 @@ loop-again c =
     (omega arith, length-set to i (getD from i 0) ∙ inv .1, one-more from to i (omega arith) (inv .2))
 
 same-length : tie.Need-same-length Inv-loop μ-loop
-same-length c = c .before .loop .inv .1 ∙ sym (c .before .before .pre)
+same-length c = c .before .loop .inv .1
 
 returns : tie.Need-returns Inv-loop μ-loop
-returns c =
-    let inv = c .before .loop .inv in
-    ext-getD 0 (c .before .loop .to) (c .before .before .args .from .now) (inv .1) (λ j l. inv .2 j (omega arith))
+unfolding at
+returns c = record { same = λ j l. c .before .loop .inv .2 j (omega arith) }
 
 pub copy-spec : {M : Type 1} → statement M
 copy-spec =

@@ -22,8 +22,8 @@ start c = c .before .before .before .before .before .before
 few : (c : tie.In-loop Inv-loop μ-loop) → c .before .loop .x < 64
 few c = omega (arith, start c .pre .0 .0, c .loop-test .taken)
 
-size : (c : tie.In-loop Inv-loop μ-loop) → length (c .before .loop .rows) ≡ 4096
-size c = c .before .loop .inv .1 .joined .size ∙ start c .pre .0 .3
+row-inside : (c : tie.In-loop Inv-loop μ-loop) → c .before .loop .x * 64 + 64 ≤ length (c .before .loop .rows)
+row-inside c = omega (arith, c .before .loop .inv .1 .joined .size, start c .pre .0 .3, c .loop-test .taken)
 
 loop-holds : tie.Need-loop-holds Inv-loop μ-loop
 loop-holds c =
@@ -53,7 +53,7 @@ lower-row-requires c κs =
     let inner = c .before .before .before in
     let asked = start inner .pre in (
       (asked .1 .0 (inner .before .loop .x), omega (arith, asked .0), λ y l. omega (arith, asked .1 .0 y, asked .1 .1 y)),
-      (omega (arith, few inner, size inner), size inner),
+      (row-inside inner, omega (arith, few inner)),
     )
 
 mul-fell-2 : tie.Need-mul-fell-2 Inv-loop μ-loop

@@ -1,13 +1,11 @@
--- `verdicts::lost_order` meets its contract: no order is lost where all edges are there, nor where no delay is below its entry in the square of single
--- edges; otherwise the table of least delays shows the first that is.
-use mathlib.Core.Path.{ap, _∙_}
+-- `verdicts::lost_order` meets its contract: no order is lost where all edges are there; otherwise `lost_by` shows the first that is, by a square with room.
+use mathlib.Core.Path.{refl}
+use native.Mathlib.Nat.{mul-le-mul}
 use native.Mathlib.Omega.{arith}
 use borrow.Author.Needs.{needs}
-use lib.ListN.{length}
 use Rattle.records.specs.Columns.{edgesOf}
 use Rattle.records.proofs.Rows.{product-small}
-use Rattle.delays.proofs.Table.{table-length, table-front, table-room}
-use Rattle.verdicts.proofs.Tables.{steps-front, lost-by-table, none-lost-among, none-lost-by-steps}
+use Rattle.verdicts.proofs.Tables.{none-lost-among}
 use Rattle.verdicts.proofs.lost_order.Statement.{statement}
 use Rattle.verdicts.proofs.lost_order.Tie as tie
 
@@ -21,85 +19,29 @@ returns c =
     let asked = c .before .before .before .before .before .before .before .pre in
     none-lost-among (asked .1 .1 .0 .2) (args .source .now) (args .sink .now) (args .delay .now) (edgesOf (args .result-source .now) (args .result-sink .now) (args .result-delay .now)) (asked .1 .1 .1 .1 .0) (asked .1 .1 .1 .1 .1 .ends) (asked .1 .1 .1 .0 (c .if1 .taken))
 
-no-steps-requires : tie.Need-no-steps-requires
-no-steps-requires c κs = search needs
+slice-aggregate-lost-by : tie.Need-slice-aggregate-lost-by
+slice-aggregate-lost-by c = search needs
 
-slice-aggregate-take-steps : tie.Need-slice-aggregate-take-steps
-slice-aggregate-take-steps c = search needs
-
-take-steps-requires : tie.Need-take-steps-requires
-take-steps-requires c κs = search needs
-
-mul-first-above : tie.Need-mul-first-above
-mul-first-above c =
-    let args = c .before .before .before .before .before .before .before .before .before .before .before .before .args in
-    let asked = c .before .before .before .before .before .before .before .before .before .before .before .before .pre in
-    record { fits = omega (arith, product-small (args .tasks) (args .tasks) (asked .1 .1 .0 .2) (asked .1 .1 .0 .2)) }
-
-sub-first-above : tie.Need-sub-first-above
-sub-first-above c = search needs
-
-part-first-above-start : tie.Need-part-first-above-start
-part-first-above-start c = search needs
-
-part-first-above-end : tie.Need-part-first-above-end
-part-first-above-end c =
-    let args = c .before .before .before .before .before .before .before .before .before .before .before .before .before .args in
-    let asked = c .before .before .before .before .before .before .before .before .before .before .before .before .before .pre in
-    omega (arith, product-small (args .tasks) (args .tasks) (asked .1 .1 .0 .2) (asked .1 .1 .0 .2), c .before .before .take-steps .ensures .room)
-
-first-above-requires : tie.Need-first-above-requires
-first-above-requires c κs =
-    let args = c .before .before .before .before .before .before .before .before .before .before .before .before .before .before .args in
-    let asked = c .before .before .before .before .before .before .before .before .before .before .before .before .before .before .pre in
-    (asked .0, ((asked .1 .1 .0 .0, asked .1 .1 .0 .1), ((asked .1 .1 .0 .2, steps-front (asked .1 .1 .0 .2) (c .before .before .before .take-steps .ensures)), asked .1 .1 .1 .1 .0)))
+lost-by-requires : tie.Need-lost-by-requires
+lost-by-requires c κs =
+    let asked = c .before .before .before .before .before .before .before .before .before .pre in
+    let few = c .before .if2 .taken in
+    (asked .0, (asked .1 .0, ((asked .1 .1 .0 .0, asked .1 .1 .0 .1, asked .1 .1 .0 .2), ((mul-le-mul few few, refl), (asked .1 .1 .1 .1 .0, asked .1 .1 .1 .1 .1)))))
 
 returns-2 : tie.Need-returns-2
-returns-2 c =
-    let args = c .before .before .before .before .before .before .before .before .before .before .before .before .before .before .before .before .before .args in
-    let asked = c .before .before .before .before .before .before .before .before .before .before .before .before .before .before .before .before .before .pre in
-    none-lost-by-steps (asked .1 .1 .0 .2) (args .source .now) (args .sink .now) (args .delay .now) (edgesOf (args .result-source .now) (args .result-sink .now) (args .result-delay .now)) (asked .1 .1 .1 .1 .0) (asked .1 .1 .1 .1 .1 .ends) (c .before .before .before .before .before .before .take-steps .ensures) (c .before .before .first-above .ensures) (c .if2 .taken)
+returns-2 c = c .before .lost-by .ensures
 
-slice-aggregate-least-table : tie.Need-slice-aggregate-least-table
-slice-aggregate-least-table c = search needs
+slice-aggregate-lost-by-2 : tie.Need-slice-aggregate-lost-by-2
+slice-aggregate-lost-by-2 c = search needs
 
-least-table-requires : tie.Need-least-table-requires
-least-table-requires c κs =
-    let args = c .before .before .before .before .before .before .before .before .before .before .before .before .before .before .before .before .before .before .args in
-    let asked = c .before .before .before .before .before .before .before .before .before .before .before .before .before .before .before .before .before .before .pre in
-    (asked .1 .0, ((asked .1 .1 .0 .2, omega (arith, product-small (args .tasks) (args .tasks) (asked .1 .1 .0 .2) (asked .1 .1 .0 .2), c .before .before .before .before .before .before .before .take-steps .ensures .room)), asked .1 .1 .1 .1 .1))
-
-mul-first-above-2 : tie.Need-mul-first-above-2
-mul-first-above-2 c =
-    let args = c .before .before .before .before .before .before .before .before .before .before .before .before .before .before .before .before .before .before .before .before .args in
-    let asked = c .before .before .before .before .before .before .before .before .before .before .before .before .before .before .before .before .before .before .before .before .pre in
-    record { fits = omega (arith, product-small (args .tasks) (args .tasks) (asked .1 .1 .0 .2) (asked .1 .1 .0 .2)) }
-
-sub-first-above-2 : tie.Need-sub-first-above-2
-sub-first-above-2 c = search needs
-
-part-first-above-start-2 : tie.Need-part-first-above-start-2
-part-first-above-start-2 c = search needs
-
-part-first-above-end-2 : tie.Need-part-first-above-end-2
-part-first-above-end-2 c =
-    let args = c .before .before .before .before .before .before .before .before .before .before .before .before .before .before .before .before .before .before .before .before .before .args in
-    let asked = c .before .before .before .before .before .before .before .before .before .before .before .before .before .before .before .before .before .before .before .before .before .pre in
-    table-room (args .tasks) (edgesOf (args .result-source .now) (args .result-sink .now) (args .result-delay .now)) _ (c .before .before .least-table .ensures)
-
-first-above-requires-2 : tie.Need-first-above-requires-2
-first-above-requires-2 c κs =
-    let args = c .before .before .before .before .before .before .before .before .before .before .before .before .before .before .before .before .before .before .before .before .before .before .args in
-    let asked = c .before .before .before .before .before .before .before .before .before .before .before .before .before .before .before .before .before .before .before .before .before .before .pre in
-    let front = table-front (args .tasks) (edgesOf (args .result-source .now) (args .result-sink .now) (args .result-delay .now)) _ (c .before .before .before .least-table .ensures) in
-    (asked .0, ((asked .1 .1 .0 .0, asked .1 .1 .0 .1), ((asked .1 .1 .0 .2, ap length front ∙ table-length (args .tasks) (edgesOf (args .result-source .now) (args .result-sink .now) (args .result-delay .now))), asked .1 .1 .1 .1 .0)))
+lost-by-requires-2 : tie.Need-lost-by-requires-2
+lost-by-requires-2 c κs =
+    let asked = c .before .before .before .before .before .before .before .before .before .pre in
+    let few = asked .1 .1 .0 .2 in
+    (asked .0, (asked .1 .0, ((asked .1 .1 .0 .0, asked .1 .1 .0 .1, few), ((omega (arith, product-small _ _ few few), refl), (asked .1 .1 .1 .1 .0, asked .1 .1 .1 .1 .1)))))
 
 returns-3 : tie.Need-returns-3
-returns-3 c =
-    let args = c .before .before .before .before .before .before .before .before .before .before .before .before .before .before .before .before .before .before .before .before .before .before .before .args in
-    let asked = c .before .before .before .before .before .before .before .before .before .before .before .before .before .before .before .before .before .before .before .before .before .before .before .pre in
-    let front = table-front (args .tasks) (edgesOf (args .result-source .now) (args .result-sink .now) (args .result-delay .now)) _ (c .before .before .before .before .least-table .ensures) in
-    lost-by-table (asked .1 .1 .0 .2) (args .source .now) (args .sink .now) (args .delay .now) (edgesOf (args .result-source .now) (args .result-sink .now) (args .result-delay .now)) (asked .1 .1 .1 .1 .0) (record { fit = asked .1 .1 .1 .1 .1; least = front }) (c .first-above2 .ensures)
+returns-3 c = c .before .lost-by2 .ensures
 
 pub lost-order-spec : {M : Type 1} → statement M
 lost-order-spec =
@@ -107,20 +49,9 @@ lost-order-spec =
     (tie.spec
     add-if1
     returns
-    no-steps-requires
-    slice-aggregate-take-steps
-    take-steps-requires
-    mul-first-above
-    sub-first-above
-    part-first-above-start
-    part-first-above-end
-    first-above-requires
+    slice-aggregate-lost-by
+    lost-by-requires
     returns-2
-    slice-aggregate-least-table
-    least-table-requires
-    mul-first-above-2
-    sub-first-above-2
-    part-first-above-start-2
-    part-first-above-end-2
-    first-above-requires-2
+    slice-aggregate-lost-by-2
+    lost-by-requires-2
     returns-3)

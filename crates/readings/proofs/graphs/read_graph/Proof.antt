@@ -1,117 +1,40 @@
--- `readings::graphs::read_graph` meets its contract: the first of the two groups of checks that refuses is the answer, else the lists are.
-use mathlib.Core.Path.{_≡_, sym, ap, _∙_, subst}
-use Prim.Native.Nat.{_≤_}
-use lib.ListN.{length}
-use Rattle.layout.specs.declared.GraphHeader.{GraphHeader}
-use Rattle.records.proofs.Parts.{zeros-length}
-use Rattle.readings.specs.declared.GraphReading.{GraphReading}
-use Rattle.files.specs.Refusals.{notRefused}
-use Rattle.files.specs.Files.{graphOf}
-use Rattle.readings.specs.Working.{workingGraph, refusedGraph, graphReading}
-use Rattle.files.proofs.First.{number-same}
-use Rattle.readings.proofs.Whole.{header-tasks, header-edges}
-use Rattle.readings.proofs.Passed.{graph-frame-passed}
-use Rattle.readings.proofs.Answers.{graph-ends, graph-stops, graph-passed, graph-read}
+-- `readings::graphs::read_graph` meets its contract: what it makes of the numbers and the lists is what `read_graph_into` says.
+use mathlib.Core.Path.{refl}
 use borrow.Author.Needs.{needs}
+use Rattle.records.specs.Columns.{zeros}
 use Rattle.readings.proofs.graphs.read_graph.Statement.{statement}
 use Rattle.readings.proofs.graphs.read_graph.Tie as tie
 
-graph-header-requires : tie.Need-graph-header-requires
-graph-header-requires c κs = search needs
+slice-aggregate-read-graph-into : tie.Need-slice-aggregate-read-graph-into
+slice-aggregate-read-graph-into c = search needs
 
-graph-frame-refusal-requires : tie.Need-graph-frame-refusal-requires
-graph-frame-refusal-requires c κs = search needs
+slice-aggregate-read-graph-into-2 : tie.Need-slice-aggregate-read-graph-into-2
+slice-aggregate-read-graph-into-2 c = search needs
 
-refused-graph-requires : tie.Need-refused-graph-requires
-refused-graph-requires c κs = search needs
+slice-aggregate-read-graph-into-3 : tie.Need-slice-aggregate-read-graph-into-3
+slice-aggregate-read-graph-into-3 c = search needs
+
+slice-aggregate-read-graph-into-4 : tie.Need-slice-aggregate-read-graph-into-4
+slice-aggregate-read-graph-into-4 c = search needs
+
+slice-aggregate-read-graph-into-5 : tie.Need-slice-aggregate-read-graph-into-5
+slice-aggregate-read-graph-into-5 c = search needs
+
+read-graph-into-requires : tie.Need-read-graph-into-requires
+unfolding zeros
+read-graph-into-requires c κs = ((refl, refl), (refl, refl, refl))
 
 returns : tie.Need-returns
-returns c =
-    c .before .before .refused-graph .ensures ∙ sym (graph-ends (c .before .before .before .before .before .before .args .bytes .now) (c .before .before .before .graph-frame-refusal .ensures) (c .if1 .taken))
-
-slice-aggregate-graph-records : tie.Need-slice-aggregate-graph-records
-slice-aggregate-graph-records c = search needs
-
-slice-aggregate-graph-records-2 : tie.Need-slice-aggregate-graph-records-2
-slice-aggregate-graph-records-2 c = search needs
-
-slice-aggregate-graph-records-3 : tie.Need-slice-aggregate-graph-records-3
-slice-aggregate-graph-records-3 c = search needs
-
-slice-aggregate-graph-records-4 : tie.Need-slice-aggregate-graph-records-4
-unfolding refusedGraph
-slice-aggregate-graph-records-4 c = sym (ap (λ (r : GraphReading). length (r .sink)) (c .before .before .before .before .before .before .before .before .before .before .before .refused-graph .ensures) ∙ zeros-length 320)
-
-slice-aggregate-graph-records-5 : tie.Need-slice-aggregate-graph-records-5
-unfolding refusedGraph
-slice-aggregate-graph-records-5 c = sym (ap (λ (r : GraphReading). length (r .delay)) (c .before .before .before .before .before .before .before .before .before .before .before .before .refused-graph .ensures) ∙ zeros-length 320)
-
-graph-records-requires : tie.Need-graph-records-requires
-unfolding refusedGraph
-graph-records-requires c κs =
-    let header = c .before .before .before .before .before .before .before .before .before .before .before .before .before .before .graph-header .ensures in
-    let frame = graph-frame-passed (c .before .before .before .before .before .before .before .before .before .before .before .before .before .before .before .before .args .bytes .now) (number-same (sym (c .before .before .before .before .before .before .before .before .before .before .before .before .before .graph-frame-refusal .ensures)) ∙ c .before .before .before .before .before .before .before .before .before .before .if1 .left) in
-    let blank = c .before .before .before .before .before .before .before .before .before .before .before .before .refused-graph .ensures in (
-      header,
-      (
-        (subst (λ (h : GraphHeader). h .tasks ≤ 64) (sym header) (frame .at-most-64), subst (λ (h : GraphHeader). h .edges ≤ 256) (sym header) (frame .at-most-256)),
-        (
-          (ap (λ (r : GraphReading). r .processor) blank, ap (λ (r : GraphReading). r .time) blank),
-          (ap (λ (r : GraphReading). r .source) blank, ap (λ (r : GraphReading). r .sink) blank, ap (λ (r : GraphReading). r .delay) blank),
-        ),
-      ),
-    )
-
-refused-graph-requires-2 : tie.Need-refused-graph-requires-2
-refused-graph-requires-2 c κs = search needs
-
-returns-2 : tie.Need-returns-2
-returns-2 c =
-    c .refused-graph2 .ensures ∙
-    sym (graph-stops (c .before .before .before .before .before .before .before .before .before .before .before .before .before .before .before .before .before .before .before .before .before .before .before .before .before .args .bytes .now) (c .before .before .before .before .before .before .before .before .before .before .before .before .before .before .before .before .before .before .before .before .before .before .graph-frame-refusal .ensures) (c .before .before .before .before .before .before .before .before .before .before .before .before .before .before .before .before .before .before .before .if1 .left) (c .before .before .before .before .before .before .before .before .graph-records .ensures .0) (c .before .if2 .taken))
-
-returns-3 : tie.Need-returns-3
-unfolding workingGraph graphOf
-returns-3 c =
-    let s = c .before .before .before .before .before .before .before .before .before .before .before .before .before .before .before .before .before .before .before .before .before .before .before .before .args .bytes .now in
-    let header = c .before .before .before .before .before .before .before .before .before .before .before .before .before .before .before .before .before .before .before .before .before .before .graph-header .ensures in
-    let frame = c .before .before .before .before .before .before .before .before .before .before .before .before .before .before .before .before .before .before .before .before .before .graph-frame-refusal .ensures in
-    let passed = c .before .before .before .before .before .before .before .before .before .before .before .before .before .before .before .before .before .before .if1 .left in
-    let said = c .before .before .before .before .before .before .before .graph-records .ensures in
-    let lists = said .1 in
-    let none : c .before .before .before .before .before .before .before .graph-records .result ≡ notRefused = graph-passed s frame passed (said .0) (c .if2 .left) in
-    let read : workingGraph (graphOf s) ≡ graphReading s = sym (graph-read s frame passed (said .0) (c .if2 .left)) in
-    _∙_ {b = workingGraph (graphOf s)}
-    (λ i.
-    record {
-      refusal = none i;
-      tasks = header-tasks s header i;
-      edges = header-edges s header i;
-      input = ap (λ (h : GraphHeader). h .input) header i;
-      output = ap (λ (h : GraphHeader). h .output) header i;
-      bound = ap (λ (h : GraphHeader). h .bound) header i;
-      processor = lists .processors i;
-      time = lists .times i;
-      source = lists .sources i;
-      sink = lists .sinks i;
-      delay = lists .delays i;
-    })
-    read
+returns c = search needs
 
 pub read-graph-spec : {M : Type 1} → statement M
 read-graph-spec =
     tie.close
     (tie.spec
-    graph-header-requires
-    graph-frame-refusal-requires
-    refused-graph-requires
-    returns
-    slice-aggregate-graph-records
-    slice-aggregate-graph-records-2
-    slice-aggregate-graph-records-3
-    slice-aggregate-graph-records-4
-    slice-aggregate-graph-records-5
-    graph-records-requires
-    refused-graph-requires-2
-    returns-2
-    returns-3)
+    slice-aggregate-read-graph-into
+    slice-aggregate-read-graph-into-2
+    slice-aggregate-read-graph-into-3
+    slice-aggregate-read-graph-into-4
+    slice-aggregate-read-graph-into-5
+    read-graph-into-requires
+    returns)

@@ -1,6 +1,6 @@
 -- `resync::planning::decide` meets its contract: refused, zeros and no edges; otherwise what `planned` gives for the graph that was read.
 use Rattle.files.specs.Files.{graphOf}
-use Rattle.resync.proofs.PlanAnswers.{answer-refused, stage-refused, read-scheduled, answer-planned, stage-planned}
+use Rattle.resync.proofs.PlanAnswers.{answer-refused, stage-refused, read-scheduled, read-latency, answer-planned, stage-planned}
 use borrow.Author.Needs.{needs}
 use Rattle.resync.proofs.planning.decide.Statement.{statement}
 use Rattle.resync.proofs.planning.decide.Tie as tie
@@ -33,7 +33,9 @@ planned-requires : tie.Need-planned-requires
 planned-requires c κs =
     let args = c .before .before .before .before .before .before .before .before .args in
     let s = args .graph .now in
-    (graphOf s, read-scheduled s (args .room) (c .before .before .before .before .before .before .accept .ensures) (c .before .before .before .with-room .ensures) (c .if1 .left))
+    let is = c .before .before .before .before .before .before .accept .ensures in
+    let tested = c .before .before .before .with-room .ensures in
+    (graphOf s, read-scheduled s (args .room) is tested (c .if1 .left), read-latency s (args .room) is tested (c .if1 .left))
 
 returns-2 : tie.Need-returns-2
 returns-2 c =
@@ -42,7 +44,7 @@ returns-2 c =
     let is = c .before .before .before .before .before .before .before .before .accept .ensures in
     let tested = c .before .before .before .before .before .with-room .ensures in
     let none = c .before .before .if1 .left in
-    let found = c .before .planned .ensures (graphOf s) (read-scheduled s (args .room) is tested none) in
+    let found = c .before .planned .ensures (graphOf s) (read-scheduled s (args .room) is tested none) (read-latency s (args .room) is tested none) in
     (answer-planned s (args .room) is tested none (c .before .before .before .before .told .ensures) found, stage-planned s (args .room) is tested none found)
 
 pub decide-spec : {M : Type 1} → statement M

@@ -1,75 +1,24 @@
--- `stages::replacing::replace` meets its contract: the edges that the pair does not subsume are stored, fewer than 256, and the pair's behind them.
-use mathlib.Core.Path.{refl, sym, ap, subst}
+-- `stages::replacing::replace` meets its contract: the edges that the pair does not subsume are kept, fewer than 256, and the pair's is stored behind them.
+use mathlib.Core.Path.{refl, sym, ap, subst, _∙_}
 use mathlib.Core.Bool.{Bool, not}
 use mathlib.Core.List.{List, [], _∷_, _++_}
-use Prim.Native.Nat.{_<_}
+use Prim.Native.Nat.{ℕ, _<_}
 use native.Mathlib.Omega.{arith}
+use lib.ListN.{length}
 use Rattle.model.specs.Lists.{keep}
-use Rattle.model.specs.Tasks.{Edge, Ends}
+use Rattle.model.specs.Tasks.{Edge}
 use Rattle.model.specs.Plan.{pairEdge, withPair}
 use Rattle.counts.specs.Counts.{subsumesBy}
-use Rattle.results.proofs.Fronts.{held-more, held-same}
-use Rattle.stages.proofs.Staged.{held-stage, frontStage, stage-held, stage-sinks, stage-delays, stage-few, few-left}
+use Rattle.results.proofs.Fronts.{held-more, held-same, held-edges}
+use Rattle.stages.proofs.Staged.{front-few, front-ends}
 use borrow.Author.Needs.{needs}
 use Rattle.stages.proofs.replacing.replace.Statement.{statement}
 use Rattle.stages.proofs.replacing.replace.Tie as tie
 
-cast-count : tie.Need-cast-count
-cast-count c = search needs
-
-blank-stage-requires : tie.Need-blank-stage-requires
-blank-stage-requires c κs = search needs
-
-sub-keep-others : tie.Need-sub-keep-others
-sub-keep-others c = search needs
-
-part-keep-others-start : tie.Need-part-keep-others-start
-part-keep-others-start c = search needs
-
-part-keep-others-end : tie.Need-part-keep-others-end
-part-keep-others-end c = search needs
-
-sub-keep-others-2 : tie.Need-sub-keep-others-2
-sub-keep-others-2 c = search needs
-
-part-keep-others-start-2 : tie.Need-part-keep-others-start-2
-part-keep-others-start-2 c = search needs
-
-part-keep-others-end-2 : tie.Need-part-keep-others-end-2
-part-keep-others-end-2 c = search needs
-
-sub-keep-others-3 : tie.Need-sub-keep-others-3
-sub-keep-others-3 c = search needs
-
-part-keep-others-start-3 : tie.Need-part-keep-others-start-3
-part-keep-others-start-3 c = search needs
-
-part-keep-others-end-3 : tie.Need-part-keep-others-end-3
-part-keep-others-end-3 c = search needs
-
-slice-aggregate-keep-others : tie.Need-slice-aggregate-keep-others
-slice-aggregate-keep-others c = search needs
-
-slice-aggregate-keep-others-2 : tie.Need-slice-aggregate-keep-others-2
-slice-aggregate-keep-others-2 c = search needs
-
-slice-aggregate-keep-others-3 : tie.Need-slice-aggregate-keep-others-3
-slice-aggregate-keep-others-3 c = search needs
-
 keep-others-requires : tie.Need-keep-others-requires
 keep-others-requires c κs =
-    let start = c .before .before .before .before .before .before .before .before .before .before .before .before .before .before .before .before .before .before .before in
-    let asked = start .pre .0 in
-    let holds = start .pre .1 .1 in (
-      (stage-sinks holds, stage-delays holds),
-      (
-        (asked .0, stage-few holds, asked .1, asked .2, asked .3, asked .4),
-        (
-          subst (λ (es : List Edge). Ends (start .args .tasks) es) (sym (stage-held holds)) (start .pre .1 .2),
-          c .before .before .before .before .before .before .before .before .before .before .before .before .blank-stage .ensures .1,
-        ),
-      ),
-    )
+    let held = (c .before .before .before .before .before .before .before .before .pre .1 .1) in
+    ((front-few held, held .sources .room, held .sinks .room, held .delays .room), ((c .before .before .before .before .before .before .before .before .pre .0), front-ends held ((c .before .before .before .before .before .before .before .before .pre .1 .2))))
 
 cast-store : tie.Need-cast-store
 cast-store c = search needs
@@ -77,72 +26,52 @@ cast-store c = search needs
 cast-store-2 : tie.Need-cast-store-2
 cast-store-2 c = search needs
 
-slice-aggregate-store : tie.Need-slice-aggregate-store
-slice-aggregate-store c = search needs
-
-slice-aggregate-store-2 : tie.Need-slice-aggregate-store-2
-slice-aggregate-store-2 c = search needs
-
-slice-aggregate-store-3 : tie.Need-slice-aggregate-store-3
-slice-aggregate-store-3 c = search needs
-
--- fewer than 256 edges are stored before the pair's
-few-stored : (c : tie.After-keep-others) → c .keep-others .result < 256
-few-stored c =
-    let asked = c .before .before .before .before .before .before .before .before .before .before .before .before .before .before .before .before .before .before .before .before .pre .1 in
-    few-left (asked .1) _ (asked .3) (c .keep-others .ensures)
+-- fewer than 256 edges are kept before the pair's
+few-kept : (c : tie.After-keep-others) → c .keep-others .result < 256
+few-kept c =
+    let args = (c .before .before .before .before .before .before .before .before .before .args) in
+    let t : Edge → Bool = λ e. not (subsumesBy (args .from .now) (args .to .now) (args .a) (args .b) e) in
+    subst (λ (n : ℕ). n < 256)
+    (sym (c .keep-others .ensures .sources .as-many ∙ ap (λ (es : List Edge). length (keep t es)) (held-edges ((c .before .before .before .before .before .before .before .before .before .pre .1 .1))))) ((c .before .before .before .before .before .before .before .before .before .pre .1 .3))
 
 store-requires : tie.Need-store-requires
 store-requires c κs =
-    let held = c .before .before .before .before .before .before .keep-others .ensures in
-    let few = few-stored (c .before .before .before .before .before .before) in
+    let held = (c .before .before .before .before .before .before .before .before .before .keep-others .ensures) in
+    let few = few-kept (c .before .before .before .before .before .before .before .before .before) in
     (omega (arith, few, held .sources .room), omega (arith, few, held .sinks .room), omega (arith, few, held .delays .room))
 
-cast-t46 : tie.Need-cast-t46
-cast-t46 c = omega (arith, few-stored (c .before .before .before .before .before .before .before .before .before .before))
+add-result : tie.Need-add-result
+add-result c = omega (arith, few-kept (c .before .before .before .before .before .before .before .before .before .before .before .before .before .before .before .before))
 
-add-t47 : tie.Need-add-t47
-add-t47 c = omega (arith, few-stored (c .before .before .before .before .before .before .before .before .before .before))
+same-length : tie.Need-same-length
+same-length c = search needs
+
+same-length-2 : tie.Need-same-length-2
+same-length-2 c = search needs
+
+same-length-3 : tie.Need-same-length-3
+same-length-3 c = search needs
 
 returns : tie.Need-returns
 unfolding withPair pairEdge
 returns c = λ list holds.
-    let start = c .before .before .before .before .before .before .before .before .before .before .before .before .before .before .before .before .before .before .before .before .before .before .before .before .before .before .before .before .before .before in
-    let args = start .args in
+    let args = (c .before .before .before .before .before .before .before .before .before .before .before .before .before .before .before .before .before .before .before .before .before .before .before .before .before .args) in
     let t : Edge → Bool = λ e. not (subsumesBy (args .from .now) (args .to .now) (args .a) (args .b) e) in
     let pair = pairEdge (args .a) (args .b) in
-    let held = c .before .before .before .before .before .before .before .before .before .before .keep-others .ensures in
-    let said = c .before .before .before .store .ensures in
-    let few = few-stored (c .before .before .before .before .before .before .before .before .before .before) in
-    let stored = held-more {es = keep t (frontStage (args .stage))} pair held few in
-    let edges-are = ap (λ (es : List Edge). keep t es ++ (pair ∷ [])) (sym (stage-held holds)) in
-    held-stage (held-same stored edges-are refl (said .0) (said .1 .0) (said .1 .1)) (omega (arith, few))
+    let said = (c .before .before .before .before .before .before .store .ensures) in
+    let stored = held-more pair ((c .before .before .before .before .before .before .before .before .before .before .before .before .before .before .before .before .keep-others .ensures)) (few-kept (c .before .before .before .before .before .before .before .before .before .before .before .before .before .before .before .before)) in
+    held-same stored (ap (λ (es : List Edge). keep t es ++ (pair ∷ [])) (sym (held-edges holds))) refl (said .0) (said .1 .0) (said .1 .1)
 
 pub replace-spec : {M : Type 1} → statement M
 replace-spec =
     tie.close
     (tie.spec
-    cast-count
-    blank-stage-requires
-    sub-keep-others
-    part-keep-others-start
-    part-keep-others-end
-    sub-keep-others-2
-    part-keep-others-start-2
-    part-keep-others-end-2
-    sub-keep-others-3
-    part-keep-others-start-3
-    part-keep-others-end-3
-    slice-aggregate-keep-others
-    slice-aggregate-keep-others-2
-    slice-aggregate-keep-others-3
     keep-others-requires
     cast-store
     cast-store-2
-    slice-aggregate-store
-    slice-aggregate-store-2
-    slice-aggregate-store-3
     store-requires
-    cast-t46
-    add-t47
+    add-result
+    same-length
+    same-length-2
+    same-length-3
     returns)

@@ -1,0 +1,68 @@
+-- `sweeps::sweep_along` meets its contract: each look keeps what is marked, and lowers the table's sum if it changes a row.
+use mathlib.Core.Path.{sym, _∙_}
+use Prim.Native.Nat.{_≤_}
+use native.Mathlib.Omega.{arith}
+use borrow.Author.Needs.{needs}
+use Rattle.records.specs.Columns.{edgesOf}
+use Rattle.sweeps.specs.Sweeps.{Going, Fallen}
+use Rattle.sweeps.proofs.Looks.{fallen-not, fallen-more}
+use Rattle.sweeps.proofs.sweep_along.Statement.{statement}
+use Rattle.sweeps.proofs.sweep_along.Tie as tie
+
+abbrev Inv-loop : tie.InvT-loop
+Inv-loop sequence count source sink delay first next follows table₀ stale₀ changed₀ k₀ table stale changed k =
+    (k ≤ count) × Going (edgesOf source sink delay) table stale × Fallen table₀ table changed
+
+abbrev μ-loop : tie.MeasureT-loop
+μ-loop sequence count source sink delay first next follows table₀ stale₀ changed₀ k₀ table stale changed k = k
+
+loop-holds : tie.Need-loop-holds Inv-loop μ-loop
+loop-holds c = (omega arith, c .before .before .before .before .before .before .before .before .before .pre .1 .1 .1 .1, fallen-not (c .before .before .before .before .before .before .before .before .before .args .table .now))
+
+sub-k : tie.Need-sub-k Inv-loop μ-loop
+sub-k c = omega arith
+
+shared-slice-read-with-row : tie.Need-shared-slice-read-with-row Inv-loop μ-loop
+shared-slice-read-with-row c = omega (arith, c .before .before .loop .inv .0, c .before .before .before .before .before .before .before .before .before .before .before .before .pre .1 .0 .1)
+
+with-row-requires : tie.Need-with-row-requires Inv-loop μ-loop
+with-row-requires c κs = search needs
+
+look-at-requires : tie.Need-look-at-requires Inv-loop μ-loop
+look-at-requires c κs =
+    let asked = c .before .before .before .before .before .before .before .before .before .before .before .before .before .before .before .pre in
+    ((asked .0 .0, asked .0 .1, asked .0 .2, c .before .before .with-row .ensures), (asked .1 .0 .0, (asked .1 .1 .0, (asked .1 .1 .1 .0, c .before .before .before .before .before .loop .inv .1))))
+
+loop-less : tie.Need-loop-less Inv-loop μ-loop
+loop-less c = omega arith
+
+loop-again : tie.Need-loop-again Inv-loop μ-loop
+loop-again c =
+    let said = c .before .before .before .before .look-at .ensures in
+    (omega arith, said .going, fallen-more (c .before .before .before .before .before .before .before .before .before .before .loop .changed) (c .before .before .before .before .look-at .result) (c .before .before .before .before .before .before .before .before .before .before .loop .inv .2) (said .fallen))
+
+same-length : tie.Need-same-length Inv-loop μ-loop
+same-length c = c .before .loop .inv .1 .sound .size ∙ sym (c .before .before .before .before .before .before .before .before .before .before .before .pre .1 .1 .1 .1 .sound .size)
+
+same-length-2 : tie.Need-same-length-2 Inv-loop μ-loop
+same-length-2 c = c .before .loop .inv .1 .marks ∙ sym (c .before .before .before .before .before .before .before .before .before .before .before .pre .1 .1 .1 .1 .marks)
+
+returns : tie.Need-returns Inv-loop μ-loop
+returns c = (c .before .loop .inv .1, c .before .loop .inv .2)
+
+pub sweep-along-spec : {M : Type 1} → statement M
+sweep-along-spec =
+    tie.close
+    (tie.spec
+    Inv-loop
+    μ-loop
+    loop-holds
+    sub-k
+    shared-slice-read-with-row
+    with-row-requires
+    look-at-requires
+    loop-less
+    loop-again
+    same-length
+    same-length-2
+    returns)
