@@ -30,6 +30,15 @@ fn four_within(bytes: &[u8], index: usize) -> u64
     (three << 8) | bytes[index + 3] as u64
 }
 
+// Five bytes that are all there as one number, the first the most significant: two records of a file.
+pub fn five_within(bytes: &[u8], index: usize) -> u64
+    requires { ⌜ index + 4 < length (now bytes) ⌝ }
+    ensures { λ r. ⌜ r ≡ field (now (bytes .entry)) (index * 8) 40 ⌝ }
+{
+    let four = four_within(bytes, index);
+    (four << 8) | bytes[index + 4] as u64
+}
+
 // Four bytes as one number, of which any may stand past the end.
 fn four_at(bytes: &[u8], index: usize) -> u64
     requires { ⌜ index + 3 < 2 ^ 64 ⌝ }

@@ -27,26 +27,26 @@ counted-few false w = omega arith
 
 module _ (back : List ℕ) (end : ℕ) (latest counts : List ℕ) (b : ℕ) where
   by-tests :
-      (s t : Bool) → eqb (at back b) 32767 ≡ s → leb end (at latest b) ≡ t → worthCounted back end latest counts b ≡ counted (s && t) (at counts b)
+      (s t : Bool) → eqb (at back b) 16383 ≡ s → leb end (at latest b) ≡ t → worthCounted back end latest counts b ≡ counted (s && t) (at counts b)
   unfolding worthCounted
   by-tests s t p q =
       ap (λ (x : Bool). counted (x && leb end (at latest b)) (at counts b)) p ∙ ap (λ (x : Bool). counted (s && x) (at counts b)) q
 
   pub worth-at-most : worthCounted back end latest counts b ≤ at counts b
   unfolding worthCounted
-  worth-at-most = counted-few (eqb (at back b) 32767 && leb end (at latest b)) (at counts b)
+  worth-at-most = counted-few (eqb (at back b) 16383 && leb end (at latest b)) (at counts b)
 
-  pub worth-with-path-back : at back b ≢ 32767 → worthCounted back end latest counts b ≡ 0
+  pub worth-with-path-back : at back b ≢ 16383 → worthCounted back end latest counts b ≡ 0
   unfolding counted
-  worth-with-path-back path = by-tests false (leb end (at latest b)) (ne-eqb (at back b) 32767 path) refl
+  worth-with-path-back path = by-tests false (leb end (at latest b)) (ne-eqb (at back b) 16383 path) refl
 
-  pub worth-late : at back b ≡ 32767 → at latest b < end → worthCounted back end latest counts b ≡ 0
+  pub worth-late : at back b ≡ 16383 → at latest b < end → worthCounted back end latest counts b ≡ 0
   unfolding counted
-  worth-late none late = by-tests true false (eq-eqb (at back b) 32767 none) (lt-leb end (at latest b) late)
+  worth-late none late = by-tests true false (eq-eqb (at back b) 16383 none) (lt-leb end (at latest b) late)
 
-  pub worth-in-time : at back b ≡ 32767 → end ≤ at latest b → worthCounted back end latest counts b ≡ at counts b
+  pub worth-in-time : at back b ≡ 16383 → end ≤ at latest b → worthCounted back end latest counts b ≡ at counts b
   unfolding counted
-  worth-in-time none in-time = by-tests true true (eq-eqb (at back b) 32767 none) (le-leb end (at latest b) in-time)
+  worth-in-time none in-time = by-tests true true (eq-eqb (at back b) 16383 none) (le-leb end (at latest b) in-time)
 
 -- ── By the counts of all pairs ──
 
@@ -66,8 +66,8 @@ module _ {n : ℕ} (few : n ≤ 64) (counts to end latest : List ℕ) (a b : ℕ
   pub worth-by-row : worthIn counts to end latest a b ≡ worthCounted (rowFront n a to) (at end a) latest (rowOf a counts) b
   unfolding worthIn worthCounted
   worth-by-row =
-      ap (counted (eqb (at to (a * 64 + b)) 32767 && leb (at end a) (at latest b))) (sym (part-at (a * 64) (a * 64 + 64) b counts (omega arith))) ∙
-      ap (λ (x : ℕ). counted (eqb x 32767 && leb (at end a) (at latest b)) (at (rowOf a counts) b))
+      ap (counted (eqb (at to (a * 64 + b)) 16383 && leb (at end a) (at latest b))) (sym (part-at (a * 64) (a * 64 + 64) b counts (omega arith))) ∙
+      ap (λ (x : ℕ). counted (eqb x 16383 && leb (at end a) (at latest b)) (at (rowOf a counts) b))
       (sym (part-at (a * 64) (a * 64 + n) b to (omega arith)))
 
   -- at most what no count of the row exceeds that has no path back and is in time, by times in units
@@ -76,9 +76,9 @@ module _ {n : ℕ} (few : n ≤ 64) (counts to end latest : List ℕ) (a b : ℕ
       → RowFew counts to (a * 64) least (unitsOf power (at end a)) row 64 → worthIn counts to end latest a b ≤ least
   unfolding worthIn counted
   worth-few {power} {least} {row} size units none =
-      go (eqb (at to (a * 64 + b)) 32767) (leb (at end a) (at latest b)) (eqb-true (at to (a * 64 + b)) 32767) (leb-true (at end a) (at latest b))
+      go (eqb (at to (a * 64 + b)) 16383) (leb (at end a) (at latest b)) (eqb-true (at to (a * 64 + b)) 16383) (leb-true (at end a) (at latest b))
     where
-      go : (free in-time : Bool) → (free ≡ true → at to (a * 64 + b) ≡ 32767) → (in-time ≡ true → at end a ≤ at latest b)
+      go : (free in-time : Bool) → (free ≡ true → at to (a * 64 + b) ≡ 16383) → (in-time ≡ true → at end a ≤ at latest b)
           → counted (free && in-time) (at counts (a * 64 + b)) ≤ least
       go true true is by =
           none b (omega arith) (is refl) (omega (arith, units .each b (omega arith), units-kept power (by refl)))

@@ -22,7 +22,7 @@ tableAt n table a b = at table (a * n + b)
 -- what the pair (a, b) is worth by the counts of all pairs: nothing if a path leads back, or if a ends after the time at which b has to start
 unfoldable pub worthIn : List ℕ → List ℕ → List ℕ → List ℕ → ℕ → ℕ → ℕ
 worthIn counts to end latest a b =
-    counted (eqb (at to (a * 64 + b)) 32767 && leb (at end a) (at latest b)) (at counts (a * 64 + b))
+    counted (eqb (at to (a * 64 + b)) 16383 && leb (at end a) (at latest b)) (at counts (a * 64 + b))
 
 -- (a, b) is the pair of numbers below n that is worth most, two or more, the first such by a and then by b; if `gain` is below 2, no pair is worth two
 pub record BestPair (n : ℕ) (worth : ℕ → ℕ → ℕ) (gain a b : ℕ) : Type 0 where

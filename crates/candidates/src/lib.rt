@@ -9,7 +9,7 @@ ghost use Rattle.model.specs.Tasks.{Edge};
 ghost use Rattle.records.specs.Columns.{at};
 ghost use Rattle.delays.specs.Delays.{delayTable};
 ghost use Rattle.candidates.specs.Candidates.{countTable, worthIn, BestPair};
-ghost use Rattle.candidates.specs.Searches.{worthCounted, BestBefore, unitsOf, UnitRow, RowFew};
+ghost use Rattle.candidates.specs.Searches.{worthCounted, BestBefore, unitsOf, SmallRow, UnitRow, RowFew};
 
 // A pair of tasks and how many edges it subsumes; below 2 if there is no pair to take.
 pub struct Pair {
@@ -19,7 +19,10 @@ pub struct Pair {
 }
 
 // No path.
-const NONE: u16 = 32767;
+const NONE: u16 = 16383;
+
+// Where numbers are cut: the largest that fits a signed test.
+const LAST: u16 = 32767;
 
 // Places of a row, for as many tasks as there can be.
 const WIDTH: usize = 64;
@@ -36,17 +39,17 @@ pub fn zero_diagonal(table: &mut [u16], tasks: usize)
     }
 }
 
-// A number, cut at 65,535.
+// A number, cut at 32,767.
 fn cut(x: u32) -> u16
-    ensures { λ r. ⌜ r ≡ min x 65535 ⌝ }
+    ensures { λ r. ⌜ r ≡ min x 32767 ⌝ }
 {
-    if x < 65535 {
+    if x < LAST as u32 {
         return x as u16;
     }
-    65535
+    LAST
 }
 
-// A time in units of a power of two, cut at 65,535.
+// A time in units of a power of two, cut at 32,767.
 fn units(time: u32, power: u32) -> u16
     requires { ⌜ power < 32 ⌝ }
     ensures { λ r. ⌜ r ≡ unitsOf power time ⌝ }
@@ -56,7 +59,7 @@ fn units(time: u32, power: u32) -> u16
 
 // Writes times in units to the first places of a row.
 fn unit_row(times: &[u32], power: u32, row: &mut [u16])
-    requires { ⌜ (power < 32) × (length (now times) ≤ 64) × (length (now row) ≡ 64) ⌝ }
+    requires { ⌜ (power < 32) × (length (now times) ≤ 64) × (length (now row) ≡ 64) × SmallRow (now row) ⌝ }
     ensures { λ _. ⌜ UnitRow (now (times .entry)) power (length (now (times .entry))) (now (row .exit)) ⌝ }
 {
     let mut b = 0;
@@ -66,13 +69,15 @@ fn unit_row(times: &[u32], power: u32, row: &mut [u16])
     }
 }
 
-// 1 if a count exceeds a number, no path leads back, and a source does not end after the latest start of the sink, else 0.
+// 1 if a count exceeds a number, no path leads back, and a source does not end after the latest start of the sink, else 0. Times are compared by a
+// signed test, for which plain x86-64 has a vector instruction.
 fn exceeds(count: u16, least: u16, back: u16, end: u16, latest: u16) -> u16
+    requires { ⌜ (end ≤ 32767) × (latest ≤ 32767) ⌝ }
     ensures few { λ r. ⌜ r ≤ 1 ⌝ }
-    ensures none { λ r. ⌜ (r ≡ 0 → back ≡ 32767 → end ≤ latest → count ≤ least) ⌝ }
+    ensures none { λ r. ⌜ (r ≡ 0 → back ≡ 16383 → end ≤ latest → count ≤ least) ⌝ }
 {
     if back == NONE {
-        if end <= latest {
+        if (end as i16) <= (latest as i16) {
             if least < count {
                 return 1;
             }
@@ -81,7 +86,7 @@ fn exceeds(count: u16, least: u16, back: u16, end: u16, latest: u16) -> u16
     0
 }
 
-// How many counts of a row exceed a number, without a path back and in time by 16 bits of each time.
+// How many counts of a row exceed a number, without a path back and in time by times in units.
 fn exceeding<'a>(
     counts: &'a [u16],
     to: &'a [u16],
@@ -91,6 +96,7 @@ fn exceeding<'a>(
     latest: &'a [u16],
 ) -> u16
     requires { ⌜ (start + 64 ≤ 4096) × (start + 64 ≤ length (now counts)) × (start + 64 ≤ length (now to)) × (length (now latest) ≡ 64) ⌝ }
+    requires { ⌜ (end ≤ 32767) × SmallRow (now latest) ⌝ }
     ensures { λ r. ⌜ (r ≡ 0 → RowFew (now (counts .entry)) (now (to .entry)) start least end (now (latest .entry)) 64) ⌝ }
 {
     let mut many = 0;
@@ -102,7 +108,7 @@ fn exceeding<'a>(
     many
 }
 
-// Whether a row may have a better pair: times are compared in units of 1 if the source's end fits 16 bits, else of 256.
+// Whether a row may have a better pair: times are compared in units of 1 if the source's end is not cut, else of 256.
 fn may_exceed<'a>(
     counts: &'a [u16],
     to: &'a [u16],
@@ -113,9 +119,10 @@ fn may_exceed<'a>(
     coarse: &'a [u16],
 ) -> bool
     requires { ⌜ (start + 64 ≤ 4096) × (start + 64 ≤ length (now counts)) × (start + 64 ≤ length (now to)) × (length (now fine) ≡ 64) × (length (now coarse) ≡ 64) ⌝ }
+    requires { ⌜ SmallRow (now fine) × SmallRow (now coarse) ⌝ }
     ensures { λ r. ⌜ (r ≡ false → RowFew (now (counts .entry)) (now (to .entry)) start least (unitsOf 0 end) (now (fine .entry)) 64 ⊎ RowFew (now (counts .entry)) (now (to .entry)) start least (unitsOf 8 end) (now (coarse .entry)) 64) ⌝ }
 {
-    if end <= 65535 {
+    if end <= LAST as u32 {
         return exceeding(counts, to, start, least, units(end, 0), fine) != 0;
     }
     exceeding(counts, to, start, least, units(end, 8), coarse) != 0
@@ -124,7 +131,7 @@ fn may_exceed<'a>(
 // Whether a pair without a path back may subsume two edges, whatever the times.
 pub fn has_pair<'a>(counts: &'a [u16], to: &'a [u16], tasks: usize) -> bool
     requires { ⌜ (tasks ≤ 64) × (tasks * 64 ≤ length (now counts)) × (tasks * 64 ≤ length (now to)) ⌝ }
-    ensures { λ r. ⌜ (r ≡ false → (a b : ℕ) → a < tasks → b < 64 → at (now (to .entry)) (a * 64 + b) ≡ 32767 → at (now (counts .entry)) (a * 64 + b) < 2) ⌝ }
+    ensures { λ r. ⌜ (r ≡ false → (a b : ℕ) → a < tasks → b < 64 → at (now (to .entry)) (a * 64 + b) ≡ 16383 → at (now (counts .entry)) (a * 64 + b) < 2) ⌝ }
 {
     let any: [u16; 64] = [0; 64];
     let mut a = 0;

@@ -7,13 +7,13 @@ use Prim.Native.Nat.{ℕ, _+_, _-_, _*_, _≤_, _<_}
 use native.Mathlib.Nat.{not-suc-le-zero, le-refl}
 use native.Mathlib.Omega.{arith}
 use lib.Dec.{leb}
-use lib.ListN.{length, set, length-set}
+use lib.ListN.{length, set, length-set, replicate, length-replicate, getD-replicate}
 use lib.Seq.{getD-set-same, getD-set-other}
 use borrow.Author.Tests.{le-leb, lt-leb}
 use Rattle.model.specs.Lists.{counted}
 use Rattle.model.proofs.Basics.{order}
 use Rattle.records.specs.Columns.{at}
-use Rattle.counts.specs.Counts.{share, Still, LeftRow, RowsMarked, RowShifted, EdgeShifted, Covered, SameTests}
+use Rattle.counts.specs.Counts.{share, Still, LeftRow, RowsMarked, BelowRow, RowShifted, EdgeShifted, Covered, SameTests}
 
 pub counted-few : (b : Bool) (w : ℕ) → counted b w ≤ w
 unfolding counted
@@ -47,28 +47,55 @@ module _ (delays : List ℕ) (start limit : ℕ) where
     each = front-more (λ a x. x ≡ limit - at delays (start + a)) left v (omega (arith, done .size)) (done .each) is;
   }
 
-module _ (old new : List ℕ) (same : Bool) where
-  pub marks-none : (marks : List ℕ) → length marks ≡ 64 → RowsMarked old new same 0 marks
+module _ (old new : List ℕ) (fell : ℕ) where
+  pub marks-none : (marks : List ℕ) → length marks ≡ 64 → RowsMarked old new fell 0 marks
   marks-none marks size = record { size = size; each = λ a l. absurd (not-suc-le-zero l) }
 
   pub marks-more :
-      {k : ℕ} {marks : List ℕ} (v : ℕ) → RowsMarked old new same k marks → k < 64 → (v ≡ 0 → Still same (at old k) (at new k))
-      → RowsMarked old new same (k + 1) (set marks k v)
+      {k : ℕ} {marks : List ℕ} (v : ℕ) → RowsMarked old new fell k marks → k < 64 → (v ≡ 0 → Still fell (at old k) (at new k))
+      → RowsMarked old new fell (k + 1) (set marks k v)
   marks-more {k} {marks} v done few is = record {
     size = length-set marks k v ∙ done .size;
-    each = front-more (λ a x. x ≡ 0 → Still same (at old a) (at new a)) marks v (omega (arith, done .size)) (done .each) is;
+    each = front-more (λ a x. x ≡ 0 → Still fell (at old a) (at new a)) marks v (omega (arith, done .size)) (done .each) is;
   }
 
 -- ── One row ──
 
-module _ (was is : List ℕ) (start old new place : ℕ) where
-  pub row-none : (before : List ℕ) → RowShifted was is start old new place 0 before before
+-- no number is below nothing
+pub share-none : (y : ℕ) {left : ℕ} → left ≡ 0 → counted (leb (y + 1) left) 1 ≡ 0
+unfolding counted
+share-none y {left} is = ap (λ (x : Bool). counted x 1) (lt-leb (y + 1) left (omega arith))
+
+module _ (delays : List ℕ) (start limit : ℕ) where
+  pub below-none : (row : List ℕ) → length row ≡ 64 → BelowRow delays start limit 0 row
+  below-none row size = record { size = size; each = λ b l. absurd (not-suc-le-zero l) }
+
+  pub below-more :
+      {k : ℕ} {row : List ℕ} (v : ℕ) → BelowRow delays start limit k row → k < 64 → v ≡ counted (leb (at delays (start + k) + 1) limit) 1
+      → BelowRow delays start limit (k + 1) (set row k v)
+  below-more {k} {row} v done few is = record {
+    size = length-set row k v ∙ done .size;
+    each = front-more (λ b x. x ≡ counted (leb (at delays (start + b) + 1) limit) 1) row v (omega (arith, done .size)) (done .each) is;
+  }
+
+  pub below-few : {row : List ℕ} → BelowRow delays start limit 64 row → (b : ℕ) → b < 64 → at row b ≤ 1
+  below-few tests b l = omega (arith, tests .each b l, counted-few (leb (at delays (start + b) + 1) limit) 1)
+
+-- zeros are the tests by a limit of 0
+pub below-zero : (delays : List ℕ) (start : ℕ) → BelowRow delays start 0 64 (replicate 64 0)
+unfolding at
+below-zero delays start = record {
+  size = length-replicate {A = ℕ} 64 0;
+  each = λ b l. getD-replicate {A = ℕ} 64 b 0 0 l ∙ sym (share-none (at delays (start + b)) {left = 0} refl);
+}
+
+module _ (less more : ℕ → ℕ) (place : ℕ) where
+  pub row-none : (before : List ℕ) → RowShifted less more place 0 before before
   row-none before = record { size = refl; inside = λ b l. absurd (not-suc-le-zero l); outside = λ i out. refl }
 
   pub row-more :
-      {k : ℕ} {before after : List ℕ} (v : ℕ) → RowShifted was is start old new place k before after → place + k < length after
-      → v + counted (leb (at was (start + k) + 1) old) 1 ≡ at after (place + k) + counted (leb (at is (start + k) + 1) new) 1
-      → RowShifted was is start old new place (k + 1) before (set after (place + k) v)
+      {k : ℕ} {before after : List ℕ} (v : ℕ) → RowShifted less more place k before after → place + k < length after
+      → v + less k ≡ at after (place + k) + more k → RowShifted less more place (k + 1) before (set after (place + k) v)
   unfolding at
   row-more {k} {before} {after} v done inside is-now = record {
     size = length-set after (place + k) v ∙ done .size;
@@ -78,15 +105,10 @@ module _ (was is : List ℕ) (start old new place : ℕ) where
         done .outside i (⊎-elim (λ l. inl l) (λ l. inr (omega arith)) out);
   }
     where
-      next : (b : ℕ) → b < k + 1 → (k ≤ b) ⊎ (b < k)
-          → at (set after (place + k) v) (place + b) + counted (leb (at was (start + b) + 1) old) 1
-          ≡ at before (place + b) + counted (leb (at is (start + b) + 1) new) 1
+      next : (b : ℕ) → b < k + 1 → (k ≤ b) ⊎ (b < k) → at (set after (place + k) v) (place + b) + less b ≡ at before (place + b) + more b
       next b l (inl h) =
           let same : b ≡ k = omega arith in
-          subst
-          (λ (x : ℕ).
-          at (set after (place + k) v) (place + x) + counted (leb (at was (start + x) + 1) old) 1
-          ≡ at before (place + x) + counted (leb (at is (start + x) + 1) new) 1) (sym same)
+          subst (λ (x : ℕ). at (set after (place + k) v) (place + x) + less x ≡ at before (place + x) + more x) (sym same)
           (omega (arith, getD-set-same after (place + k) v 0 inside, done .outside (place + k) (inr (omega arith)), is-now))
       next b l (inr h) = omega (arith, getD-set-other after (place + k) (place + b) v 0 (λ q. omega arith), done .inside b h)
 
@@ -108,11 +130,6 @@ unfolding share
 share-left from to s t limit a b is =
     ap (λ (l : ℕ). counted (leb (at to (t * 64 + b) + 1) l) 1) is ∙
     ap (λ (x : Bool). counted x 1) (left-test (at from (s * 64 + a)) (at to (t * 64 + b)) limit)
-
--- no share is left of nothing
-pub share-none : (y : ℕ) {left : ℕ} → left ≡ 0 → counted (leb (y + 1) left) 1 ≡ 0
-unfolding counted
-share-none y {left} is = ap (λ (x : Bool). counted x 1) (lt-leb (y + 1) left (omega arith))
 
 module _ (from to from′ to′ : List ℕ) (s t limit limit′ : ℕ) where
   pub edge-none : (before : List ℕ) → EdgeShifted from to from′ to′ s t limit limit′ 0 before before
@@ -149,29 +166,22 @@ module _ (from to from′ to′ : List ℕ) (s t limit limit′ : ℕ) where
         go c b l m (inr h) = omega (arith, outside (c * 64 + b) (inl (omega arith)), done .inside c b h m)
 
     pub edge-moved :
-        {old new : ℕ} {after : List ℕ} → old ≡ limit - at from (s * 64 + a) → new ≡ limit′ - at from′ (s * 64 + a)
-        → RowShifted to to′ (t * 64) old new (a * 64) 64 now after → EdgeShifted from to from′ to′ s t limit limit′ (a + 1) before after
-    edge-moved was is row =
+        {old new : ℕ} {less more : ℕ → ℕ} {after : List ℕ} → old ≡ limit - at from (s * 64 + a) → new ≡ limit′ - at from′ (s * 64 + a)
+        → ((b : ℕ) → b < 64 → less b ≡ counted (leb (at to (t * 64 + b) + 1) old) 1)
+        → ((b : ℕ) → b < 64 → more b ≡ counted (leb (at to′ (t * 64 + b) + 1) new) 1)
+        → RowShifted less more (a * 64) 64 now after → EdgeShifted from to from′ to′ s t limit limit′ (a + 1) before after
+    edge-moved was is lost gained row =
         next-row (row .size) (λ i out. row .outside i out)
-        (λ b l. omega (arith, row .inside b l, share-left from to s t limit a b was, share-left from′ to′ s t limit′ a b is))
+        (λ b l.
+        omega
+        (arith, row .inside b l, lost b l, gained b l, share-left from to s t limit a b was, share-left from′ to′ s t limit′ a b is))
 
     pub edge-passed :
-        {old new : ℕ} {same : Bool} → old ≡ limit - at from (s * 64 + a) → new ≡ limit′ - at from′ (s * 64 + a)
-        → (same ≡ true → SameTests to to′ t limit) → Still same old new
+        {old new fell : ℕ} → old ≡ limit - at from (s * 64 + a) → new ≡ limit′ - at from′ (s * 64 + a) → SameTests to to′ t fell → Still fell old new
         → EdgeShifted from to from′ to′ s t limit limit′ (a + 1) before now
-    edge-passed {old} {new} was is tests (inl both) =
+    edge-passed {old} {new} was is tests still =
         next-row refl (λ i out. refl)
         (λ b l.
         let passed : counted (leb (at to (t * 64 + b) + 1) old) 1 ≡ counted (leb (at to′ (t * 64 + b) + 1) new) 1
-        = ap (λ (x : Bool). counted x 1) (tests (both .0) b old l (omega arith)) ∙ ap (λ (x : ℕ). counted (leb (at to′ (t * 64 + b) + 1) x) 1) (both .1) in
+        = ap (λ (x : ℕ). counted (leb (at to (t * 64 + b) + 1) x) 1) (still .0) ∙ ap (λ (x : Bool). counted x 1) (tests b new l (still .1)) in
         omega (arith, passed, share-left from to s t limit a b was, share-left from′ to′ s t limit′ a b is))
-    edge-passed {old} {new} was is tests (inr none) =
-        next-row refl (λ i out. refl)
-        (λ b l.
-        omega (
-          arith,
-          share-none (at to (t * 64 + b)) (none .0),
-          share-none (at to′ (t * 64 + b)) (none .1),
-          share-left from to s t limit a b was,
-          share-left from′ to′ s t limit′ a b is,
-        ))

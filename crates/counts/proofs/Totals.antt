@@ -90,8 +90,9 @@ share-if from to s t d a b false = share-zero from to s t a b
 
 module _ {tasks : ℕ} {from to from′ to′ fell-from fell-to : List ℕ} (lower-from : RowsFell tasks from from′ fell-from)
     (lower-to : RowsFell tasks to to′ fell-to) where
-  pub same-tests : (t d : ℕ) → t < tasks → d < at fell-to t → SameTests to to′ t (d + 1)
-  same-tests t d inside above b l below limit = go (lower-to .least t b inside below)
+  -- by limits up to the least of its numbers that fell, a row passes the same tests as before
+  pub same-tests : (t : ℕ) → t < tasks → SameTests to to′ t (at fell-to t)
+  same-tests t inside b l below limit = go (lower-to .least t b inside below)
     where
       go : (at to′ (t * 64 + b) ≡ at to (t * 64 + b)) ⊎ (at fell-to t ≤ at to′ (t * 64 + b))
           → leb (at to (t * 64 + b) + 1) l ≡ leb (at to′ (t * 64 + b) + 1) l
@@ -109,7 +110,7 @@ module _ {tasks : ℕ} {from to from′ to′ fell-from fell-to : List ℕ} (low
           → counted (leb (at to (t * 64 + b) + 1) (d + 1 - at from (s * 64 + a))) 1
           ≡ counted (leb (at to′ (t * 64 + b) + 1) (d + 1 - at from′ (s * 64 + a))) 1
       go (inl same) =
-          ap (λ (x : Bool). counted x 1) (same-tests t d sink above-to b (d + 1 - at from (s * 64 + a)) lb (omega arith)) ∙
+          ap (λ (x : Bool). counted x 1) (same-tests t sink b (d + 1 - at from (s * 64 + a)) lb (omega arith)) ∙
           ap (λ (x : ℕ). counted (leb (at to′ (t * 64 + b) + 1) (d + 1 - x)) 1) (sym same)
       go (inr far) =
           ap (λ (x : Bool). counted x 1)
@@ -124,12 +125,18 @@ module _ {tasks : ℕ} {from to from′ to′ fell-from fell-to : List ℕ} (low
     outside = λ i l. refl;
   }
 
--- the next limit of an edge that is dropped, and of one that stays
+-- the next limit of an edge that is dropped, which leaves no share by any delays, and of one that stays
 module _ {from to from′ to′ : List ℕ} {s t limit tasks : ℕ} {counts after : List ℕ} where
-  pub edge-dropped : {gone : Bool} → gone ≡ true → EdgeShifted from to from′ to′ s t limit 0 tasks counts after
+  pub edge-dropped : {gone : Bool} → gone ≡ true → EdgeShifted from to from to s t limit 0 tasks counts after
       → EdgeShifted from to from′ to′ s t limit (counted (not gone) limit) tasks counts after
   unfolding counted
-  edge-dropped is shifted = subst (λ (b : Bool). EdgeShifted from to from′ to′ s t limit (counted (not b) limit) tasks counts after) (sym is) shifted
+  edge-dropped is shifted =
+      subst (λ (b : Bool). EdgeShifted from to from′ to′ s t limit (counted (not b) limit) tasks counts after) (sym is)
+      (record {
+        size = shifted .size;
+        inside = λ a b l m. omega (arith, shifted .inside a b l m, share-zero from to s t a b, share-zero from′ to′ s t a b);
+        outside = shifted .outside;
+      })
 
   pub edge-stays : {gone : Bool} → gone ≡ false → EdgeShifted from to from′ to′ s t limit limit tasks counts after
       → EdgeShifted from to from′ to′ s t limit (counted (not gone) limit) tasks counts after

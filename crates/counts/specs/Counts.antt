@@ -1,7 +1,7 @@
 -- Only for contracts inside: how many edges each pair of tasks subsumes, by delays in rows of 64 numbers, and how these counts change.
 use mathlib.Core.Path.{_≡_}
 use mathlib.Core.Logic.{_⊎_}
-use mathlib.Core.Bool.{Bool, true}
+use mathlib.Core.Bool.{Bool}
 use mathlib.Core.List.{List}
 use Prim.Native.Nat.{ℕ, _+_, _-_, _*_, _≤_, _<_}
 use lib.Dec.{leb}
@@ -10,7 +10,7 @@ use Rattle.model.specs.Lists.{counted, keep}
 use Rattle.model.specs.Tasks.{Edge}
 use Rattle.records.specs.Columns.{at}
 
--- the pair (a, b) subsumes e, by the delays from its source and the delays to its sink; 32,767, for none, is above every delay
+-- the pair (a, b) subsumes e, by the delays from its source and the delays to its sink; 16,383, for none, is above every delay
 unfoldable pub subsumesBy : List ℕ → List ℕ → ℕ → ℕ → Edge → Bool
 subsumesBy from to a b e = leb (at from (e .source * 64 + a) + at to (e .sink * 64 + b)) (e .delay)
 
@@ -22,6 +22,10 @@ share from to s t limit a b = counted (leb (at from (s * 64 + a) + at to (t * 64
 pub record CountsOf (tasks : ℕ) (from to : List ℕ) (es : List Edge) (counts : List ℕ) : Type 0 where
   pub size : tasks * 64 ≤ length counts
   pub each : (a b : ℕ) → a < tasks → b < 64 → at counts (a * 64 + b) ≡ length (keep (subsumesBy from to a b) es)
+
+-- Every number of the first `tasks` rows is at most 16,383.
+abbrev pub SmallRows : ℕ → List ℕ → Type 0
+SmallRows tasks rows = (i : ℕ) → i < tasks * 64 → at rows i ≤ 16383
 
 -- Rows only fell, and each number of row x that fell is at least number x of `fell`.
 pub record RowsFell (tasks : ℕ) (before after fell : List ℕ) : Type 0 where
@@ -37,9 +41,9 @@ abbrev pub Covered : List ℕ → List ℕ → ℕ → ℕ → ℕ → ℕ → L
 Covered from to s t limit tasks counts =
     (a b : ℕ) → a < tasks → b < 64 → (share from to s t limit a b ≤ at counts (a * 64 + b)) × (at counts (a * 64 + b) ≤ 256)
 
--- A row of counts stays: as much is left for it as before and the other delays pass the same tests, or nothing is left before and after.
-abbrev pub Still : Bool → ℕ → ℕ → Type 0
-Still same old new = ((same ≡ true) × (old ≡ new)) ⊎ ((old ≡ 0) × (new ≡ 0))
+-- A row of counts stays: as much is left for it as before, and no more than the least of the other delays that fell.
+abbrev pub Still : ℕ → ℕ → ℕ → Type 0
+Still fell old new = (old ≡ new) × (new ≤ fell)
 
 -- The first `many` numbers are what the delays from a start on leave of a limit.
 pub record LeftRow (delays : List ℕ) (start limit many : ℕ) (left : List ℕ) : Type 0 where
@@ -47,15 +51,19 @@ pub record LeftRow (delays : List ℕ) (start limit many : ℕ) (left : List ℕ
   pub each : (a : ℕ) → a < many → at left a ≡ limit - at delays (start + a)
 
 -- Of the first `many` rows each that is marked by 0 stays.
-pub record RowsMarked (old new : List ℕ) (same : Bool) (many : ℕ) (marks : List ℕ) : Type 0 where
+pub record RowsMarked (old new : List ℕ) (fell many : ℕ) (marks : List ℕ) : Type 0 where
   pub size : length marks ≡ 64
-  pub each : (a : ℕ) → a < many → at marks a ≡ 0 → Still same (at old a) (at new a)
+  pub each : (a : ℕ) → a < many → at marks a ≡ 0 → Still fell (at old a) (at new a)
 
--- The first `many` counts of a row lost what numbers below `old` added, and have what numbers below `new` add; the others are as before.
-pub record RowShifted (was is : List ℕ) (start old new place many : ℕ) (before after : List ℕ) : Type 0 where
+-- The first `many` numbers of a row of tests: 1 where the delay, from a start on, is below a limit, else 0.
+pub record BelowRow (delays : List ℕ) (start limit many : ℕ) (row : List ℕ) : Type 0 where
+  pub size : length row ≡ 64
+  pub each : (b : ℕ) → b < many → at row b ≡ counted (leb (at delays (start + b) + 1) limit) 1
+
+-- The first `many` counts of a row lost what `less` says, and have what `more` says; the others are as before.
+pub record RowShifted (less more : ℕ → ℕ) (place many : ℕ) (before after : List ℕ) : Type 0 where
   pub size : length after ≡ length before
-  pub inside : (b : ℕ) → b < many →
-      at after (place + b) + counted (leb (at was (start + b) + 1) old) 1 ≡ at before (place + b) + counted (leb (at is (start + b) + 1) new) 1
+  pub inside : (b : ℕ) → b < many → at after (place + b) + less b ≡ at before (place + b) + more b
   pub outside : (i : ℕ) → (i < place) ⊎ (place + many ≤ i) → at after i ≡ at before i
 
 -- The counts of the first `many` rows lost the share that an edge had, and have the one it gets; the others are as before.

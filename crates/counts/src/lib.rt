@@ -1,9 +1,10 @@
 // How many edges of a stage of the plan each pair of tasks subsumes, kept from step to step: row a of the counts has those of the pairs out of task a.
 // Delays stand in rows of 64 numbers, `from` by the task they lead from, `to` by the task they lead to. An edge is counted by its limit, which is one
-// above its delay: for each pair for which the delay from its source to the pair's, and from the pair's sink to its own, add up to less.
+// above its delay: for each pair for which the delay from its source to the pair's, and from the pair's sink to its own, add up to less. Delays are
+// at most 16,383, so that a signed test may compare them. Most rows of counts change by the same tests of a row of delays: these are worked out once, as
+// a row of ones and zeros, and again only when the limit is another.
 ghost use mathlib.Core.Path.{_≡_};
-ghost use mathlib.Core.Logic.{_⊎_};
-ghost use mathlib.Core.Bool.{true, false, not};
+ghost use mathlib.Core.Bool.{not};
 ghost use Prim.Native.Nat.{ℕ, _+_, _-_, _*_, _≤_, _<_};
 ghost use lib.Dec.{leb};
 ghost use lib.ListN.{length};
@@ -12,16 +13,17 @@ ghost use Rattle.model.specs.Tasks.{Ends};
 ghost use Rattle.model.specs.Plan.{withPair};
 ghost use Rattle.records.specs.Columns.{at, edgesOf};
 ghost use Rattle.delays.specs.Delays.{edge};
-ghost use Rattle.counts.specs.Counts.{subsumesBy, share, Still, LeftRow, RowsMarked, RowsFell, RowShifted, EdgeShifted, Covered, SameTests, CountsOf};
+ghost use Rattle.counts.specs.Counts.{subsumesBy, SmallRows, Still, BelowRow, LeftRow, RowsMarked, RowsFell, RowShifted, EdgeShifted, Covered, SameTests, CountsOf};
 
 // Places of a row, for as many tasks as there can be.
 const WIDTH: usize = 64;
 
-// 1 if a number is below a limit, else 0.
+// 1 if a number is below a limit, else 0: by a signed test, for which plain x86-64 has a vector instruction.
 fn below(x: u16, limit: u16) -> u16
+    requires { ⌜ (x ≤ 32767) × (limit ≤ 32767) ⌝ }
     ensures { λ r. ⌜ r ≡ counted (leb (x + 1) limit) 1 ⌝ }
 {
-    if x < limit {
+    if (x as i16) < (limit as i16) {
         return 1;
     }
     0
@@ -37,21 +39,14 @@ fn left_of(limit: u16, delay: u16) -> u16
     0
 }
 
-// 1 if a row of counts has to be looked at, else 0: not if nothing is left before and after, nor if as much is left and the other delays pass the same
-// tests.
-fn moves(old: u16, new: u16, same: bool) -> u16
-    ensures { λ r. ⌜ (r ≡ 0 → Still same old new) ⌝ }
+// 1 if a row of counts has to be looked at, else 0: not if as much is left as before, and no more than the least of the other delays that fell.
+fn moves(old: u16, new: u16, fell: u16) -> u16
+    ensures { λ r. ⌜ (r ≡ 0 → Still fell old new) ⌝ }
 {
-    if same {
-        if old == new {
-            return 0;
-        }
+    if old != new {
         return 1;
     }
-    if old != 0 {
-        return 1;
-    }
-    if new != 0 {
+    if fell < new {
         return 1;
     }
     0
@@ -75,25 +70,65 @@ pub fn is_subsumed<'a>(
     before + after <= delay as u32
 }
 
-// Counts an edge anew for the pairs out of one task: a number of the row of delays `was` counted if it was below `old`, one of `is` counts if it is
-// below `new`.
-fn shift_row<'a>(
-    was: &'a [u16],
-    is: &'a [u16],
-    start: usize,
-    old: u16,
-    new: u16,
-    place: usize,
-    counts: &mut [u16],
-)
-    requires { ⌜ (start + 64 ≤ length (now was)) × (start + 64 ≤ length (now is)) × (place + 64 ≤ length (now counts)) × (start ≤ 4096) × (place ≤ 4096) ⌝ }
-    requires { ⌜ ((b : ℕ) → b < 64 → (counted (leb (at (now was) (start + b) + 1) old) 1 ≤ at (now counts) (place + b)) × (at (now counts) (place + b) ≤ 256)) ⌝ }
-    ensures { λ _. ⌜ RowShifted (now (was .entry)) (now (is .entry)) start old new place 64 (now (counts .entry)) (now (counts .exit)) ⌝ }
+// Tests a row of delays: 1 for each that is below a limit, else 0.
+fn row_below(delays: &[u16], start: usize, limit: u16, row: &mut [u16])
+    requires { ⌜ (start + 64 ≤ length (now delays)) × (start ≤ 4096) × (limit ≤ 32767) × (length (now row) ≡ 64) ⌝ }
+    requires { ⌜ ((b : ℕ) → b < 64 → at (now delays) (start + b) ≤ 16383) ⌝ }
+    ensures { λ _. ⌜ BelowRow (now (delays .entry)) start limit 64 (now (row .exit)) ⌝ }
 {
     let mut b = 0;
     while b < WIDTH {
-        counts[place + b] = counts[place + b] + below(is[start + b], new)
-            - below(was[start + b], old);
+        row[b] = below(delays[start + b], limit);
+        b += 1;
+    }
+}
+
+// Turns the row of tests by the limit `last` into the one by `limit`: mostly the two are the same, and nothing is to be done.
+fn renew_row(delays: &[u16], start: usize, last: u16, limit: u16, row: &mut [u16])
+    requires { ⌜ (start + 64 ≤ length (now delays)) × (start ≤ 4096) × (limit ≤ 32767) ⌝ }
+    requires { ⌜ ((b : ℕ) → b < 64 → at (now delays) (start + b) ≤ 16383) × BelowRow (now delays) start last 64 (now row) ⌝ }
+    ensures { λ _. ⌜ BelowRow (now (delays .entry)) start limit 64 (now (row .exit)) ⌝ }
+{
+    if limit != last {
+        row_below(delays, start, limit, row);
+    }
+}
+
+// Adds a row of tests to a row of counts, and takes another off.
+fn exchange_row<'a>(more: &'a [u16], less: &'a [u16], place: usize, counts: &mut [u16])
+    requires { ⌜ (length (now more) ≡ 64) × (length (now less) ≡ 64) × (place + 64 ≤ length (now counts)) × (place ≤ 4096) ⌝ }
+    requires { ⌜ ((b : ℕ) → b < 64 → (at (now more) b ≤ 1) × (at (now less) b ≤ at (now counts) (place + b)) × (at (now counts) (place + b) ≤ 256)) ⌝ }
+    ensures { λ _. ⌜ RowShifted (λ b. at (now (less .entry)) b) (λ b. at (now (more .entry)) b) place 64 (now (counts .entry)) (now (counts .exit)) ⌝ }
+{
+    let mut b = 0;
+    while b < WIDTH {
+        counts[place + b] = counts[place + b] + more[b] - less[b];
+        b += 1;
+    }
+}
+
+// Adds a row of tests to a row of counts.
+fn more_row(more: &[u16], place: usize, counts: &mut [u16])
+    requires { ⌜ (length (now more) ≡ 64) × (place + 64 ≤ length (now counts)) × (place ≤ 4096) ⌝ }
+    requires { ⌜ ((b : ℕ) → b < 64 → (at (now more) b ≤ 1) × (at (now counts) (place + b) ≤ 256)) ⌝ }
+    ensures { λ _. ⌜ RowShifted (λ b. 0) (λ b. at (now (more .entry)) b) place 64 (now (counts .entry)) (now (counts .exit)) ⌝ }
+{
+    let mut b = 0;
+    while b < WIDTH {
+        counts[place + b] = counts[place + b] + more[b];
+        b += 1;
+    }
+}
+
+// Takes a row of tests off a row of counts.
+fn less_row(less: &[u16], place: usize, counts: &mut [u16])
+    requires { ⌜ (length (now less) ≡ 64) × (place + 64 ≤ length (now counts)) × (place ≤ 4096) ⌝ }
+    requires { ⌜ ((b : ℕ) → b < 64 → at (now less) b ≤ at (now counts) (place + b)) ⌝ }
+    ensures { λ _. ⌜ RowShifted (λ b. at (now (less .entry)) b) (λ b. 0) place 64 (now (counts .entry)) (now (counts .exit)) ⌝ }
+{
+    let mut b = 0;
+    while b < WIDTH {
+        counts[place + b] = counts[place + b] - less[b];
         b += 1;
     }
 }
@@ -111,19 +146,18 @@ fn left_row(delays: &[u16], start: usize, limit: u16, left: &mut [u16])
 }
 
 // Marks by 1 each row of counts that has to be looked at, by what is left for it before and after.
-fn mark_rows<'a>(old: &'a [u16], new: &'a [u16], same: bool, marks: &mut [u16])
+fn mark_rows<'a>(old: &'a [u16], new: &'a [u16], fell: u16, marks: &mut [u16])
     requires { ⌜ (length (now old) ≡ 64) × (length (now new) ≡ 64) × (length (now marks) ≡ 64) ⌝ }
-    ensures { λ _. ⌜ RowsMarked (now (old .entry)) (now (new .entry)) same 64 (now (marks .exit)) ⌝ }
+    ensures { λ _. ⌜ RowsMarked (now (old .entry)) (now (new .entry)) fell 64 (now (marks .exit)) ⌝ }
 {
     let mut a = 0;
     while a < WIDTH {
-        marks[a] = moves(old[a], new[a], same);
+        marks[a] = moves(old[a], new[a], fell);
         a += 1;
     }
 }
 
-// Counts an edge anew, after the delays changed: by its limit, and by its next one; 0 for an edge that is not counted. `same` says that the delays to
-// its sink pass the same tests as before.
+// Counts an edge anew by its limit, after the delays changed. Those to its sink pass the same tests as before by limits up to `fell`.
 fn shift_edge<'a>(
     from: &'a [u16],
     to: &'a [u16],
@@ -132,42 +166,38 @@ fn shift_edge<'a>(
     source: usize,
     sink: usize,
     limit: u16,
-    next_limit: u16,
-    same: bool,
+    fell: u16,
     tasks: usize,
     counts: &mut [u16],
 )
     requires { ⌜ (tasks * 64 ≤ length (now from)) × (tasks * 64 ≤ length (now to)) × (tasks * 64 ≤ length (now «next_from»)) × (tasks * 64 ≤ length (now «next_to»)) ⌝ }
     requires { ⌜ (tasks ≤ 64) × (source < tasks) × (sink < tasks) × (tasks * 64 ≤ length (now counts)) ⌝ }
-    requires { ⌜ (same ≡ true → SameTests (now to) (now «next_to») sink limit) ⌝ }
+    requires { ⌜ (limit ≤ 32767) × SmallRows tasks (now to) × SmallRows tasks (now «next_to») × SameTests (now to) (now «next_to») sink fell ⌝ }
     requires { ⌜ Covered (now from) (now to) source sink limit tasks (now counts) ⌝ }
-    ensures { λ _. ⌜ EdgeShifted (now (from .entry)) (now (to .entry)) (now («next_from» .entry)) (now («next_to» .entry)) source sink limit «next_limit» tasks (now (counts .entry)) (now (counts .exit)) ⌝ }
+    ensures { λ _. ⌜ EdgeShifted (now (from .entry)) (now (to .entry)) (now («next_from» .entry)) (now («next_to» .entry)) source sink limit limit tasks (now (counts .entry)) (now (counts .exit)) ⌝ }
 {
     let mut old: [u16; 64] = [0; 64];
     let mut new: [u16; 64] = [0; 64];
     let mut marks: [u16; 64] = [0; 64];
     left_row(from, source * WIDTH, limit, &mut old);
-    left_row(next_from, source * WIDTH, next_limit, &mut new);
-    mark_rows(&old, &new, same, &mut marks);
+    left_row(next_from, source * WIDTH, limit, &mut new);
+    mark_rows(&old, &new, fell, &mut marks);
+    let mut more: [u16; 64] = [0; 64];
+    let mut less: [u16; 64] = [0; 64];
+    let mut last_old = 0;
+    let mut last_new = 0;
     let mut a = 0;
     while a < tasks {
         if marks[a] != 0 {
-            shift_row(to, next_to, sink * WIDTH, old[a], new[a], a * WIDTH, counts);
+            let before = old[a];
+            let after = new[a];
+            renew_row(to, sink * WIDTH, last_old, before, &mut less);
+            renew_row(next_to, sink * WIDTH, last_new, after, &mut more);
+            last_old = before;
+            last_new = after;
+            exchange_row(&more, &less, a * WIDTH, counts);
         }
         a += 1;
-    }
-}
-
-// Counts an edge for the pairs out of one task: a number of the row of delays counts if it is below `left`.
-fn add_row(delays: &[u16], start: usize, left: u16, place: usize, counts: &mut [u16])
-    requires { ⌜ (start + 64 ≤ length (now delays)) × (place + 64 ≤ length (now counts)) × (start ≤ 4096) × (place ≤ 4096) ⌝ }
-    requires { ⌜ ((b : ℕ) → b < 64 → at (now counts) (place + b) ≤ 256) ⌝ }
-    ensures { λ _. ⌜ RowShifted (now (delays .entry)) (now (delays .entry)) start 0 left place 64 (now (counts .entry)) (now (counts .exit)) ⌝ }
-{
-    let mut b = 0;
-    while b < WIDTH {
-        counts[place + b] = counts[place + b] + below(delays[start + b], left);
-        b += 1;
     }
 }
 
@@ -182,15 +212,48 @@ fn count_edge<'a>(
     counts: &mut [u16],
 )
     requires { ⌜ (tasks * 64 ≤ length (now from)) × (tasks * 64 ≤ length (now to)) × (tasks * 64 ≤ length (now counts)) ⌝ }
-    requires { ⌜ (tasks ≤ 64) × (source < tasks) × (sink < tasks) ⌝ }
+    requires { ⌜ (tasks ≤ 64) × (source < tasks) × (sink < tasks) × (limit ≤ 32767) × SmallRows tasks (now to) ⌝ }
     requires { ⌜ Covered (now from) (now to) source sink 0 tasks (now counts) ⌝ }
     ensures { λ _. ⌜ EdgeShifted (now (from .entry)) (now (to .entry)) (now (from .entry)) (now (to .entry)) source sink 0 limit tasks (now (counts .entry)) (now (counts .exit)) ⌝ }
 {
+    let mut more: [u16; 64] = [0; 64];
+    let mut last = 0;
     let mut a = 0;
     while a < tasks {
         let left = left_of(limit, from[source * WIDTH + a]);
         if left != 0 {
-            add_row(to, sink * WIDTH, left, a * WIDTH, counts);
+            renew_row(to, sink * WIDTH, last, left, &mut more);
+            last = left;
+            more_row(&more, a * WIDTH, counts);
+        }
+        a += 1;
+    }
+}
+
+// Takes an edge out of the counts, by the limit it was counted with.
+fn drop_edge<'a>(
+    from: &'a [u16],
+    to: &'a [u16],
+    source: usize,
+    sink: usize,
+    limit: u16,
+    tasks: usize,
+    counts: &mut [u16],
+)
+    requires { ⌜ (tasks * 64 ≤ length (now from)) × (tasks * 64 ≤ length (now to)) × (tasks * 64 ≤ length (now counts)) ⌝ }
+    requires { ⌜ (tasks ≤ 64) × (source < tasks) × (sink < tasks) × (limit ≤ 32767) × SmallRows tasks (now to) ⌝ }
+    requires { ⌜ Covered (now from) (now to) source sink limit tasks (now counts) ⌝ }
+    ensures { λ _. ⌜ EdgeShifted (now (from .entry)) (now (to .entry)) (now (from .entry)) (now (to .entry)) source sink limit 0 tasks (now (counts .entry)) (now (counts .exit)) ⌝ }
+{
+    let mut less: [u16; 64] = [0; 64];
+    let mut last = 0;
+    let mut a = 0;
+    while a < tasks {
+        let left = left_of(limit, from[source * WIDTH + a]);
+        if left != 0 {
+            renew_row(to, sink * WIDTH, last, left, &mut less);
+            last = left;
+            less_row(&less, a * WIDTH, counts);
         }
         a += 1;
     }
@@ -209,7 +272,7 @@ pub fn count_edges<'a>(
     requires { ⌜ (length (now sink) ≡ length (now source)) × (length (now delay) ≡ length (now source)) × (length (now source) ≤ 256) ⌝ }
     requires { ⌜ (tasks * 64 ≤ length (now from)) × (tasks * 64 ≤ length (now to)) × (tasks * 64 ≤ length (now counts)) ⌝ }
     requires { ⌜ (tasks ≤ 64) × Ends tasks (edgesOf (now source) (now sink) (now delay)) ⌝ }
-    requires { ⌜ ((i : ℕ) → at (now counts) i ≡ 0) ⌝ }
+    requires { ⌜ SmallRows tasks (now to) × ((i : ℕ) → at (now counts) i ≡ 0) ⌝ }
     ensures { λ _. ⌜ CountsOf tasks (now (from .entry)) (now (to .entry)) (edgesOf (now (source .entry)) (now (sink .entry)) (now (delay .entry))) (now (counts .exit)) ⌝ }
 {
     let mut j = 0;
@@ -227,7 +290,7 @@ pub fn count_edges<'a>(
     }
 }
 
-// Counts one edge anew when the pair (a, b) is added: it is dropped if the pair subsumes it, and passed over if no delay that matters to it fell.
+// Counts one edge anew when the pair (a, b) is added: it is taken out if the pair subsumes it, and passed over if no delay that matters to it fell.
 fn shift_one<'a>(
     from: &'a [u16],
     to: &'a [u16],
@@ -246,6 +309,7 @@ fn shift_one<'a>(
     requires { ⌜ (tasks * 64 ≤ length (now from)) × (tasks * 64 ≤ length (now to)) × (tasks * 64 ≤ length (now «next_from»)) × (tasks * 64 ≤ length (now «next_to»)) ⌝ }
     requires { ⌜ (length (now «fell_from») ≡ 64) × (length (now «fell_to») ≡ 64) ⌝ }
     requires { ⌜ RowsFell tasks (now from) (now «next_from») (now «fell_from») × RowsFell tasks (now to) (now «next_to») (now «fell_to») ⌝ }
+    requires { ⌜ SmallRows tasks (now to) × SmallRows tasks (now «next_to») ⌝ }
     requires { ⌜ (tasks ≤ 64) × (a < tasks) × (b < tasks) × (source < tasks) × (sink < tasks) × (tasks * 64 ≤ length (now counts)) ⌝ }
     requires { ⌜ Covered (now from) (now to) source sink (delay + 1) tasks (now counts) ⌝ }
     ensures { λ _. ⌜ EdgeShifted (now (from .entry)) (now (to .entry)) (now («next_from» .entry)) (now («next_to» .entry)) source sink (delay + 1) (counted (not (subsumesBy (now (from .entry)) (now (to .entry)) a b (edge source sink delay))) (delay + 1)) tasks (now (counts .entry)) (now (counts .exit)) ⌝ }
@@ -254,23 +318,11 @@ fn shift_one<'a>(
     let s = source as usize;
     let t = sink as usize;
     if is_subsumed(from, to, a, b, source, sink, delay) {
-        shift_edge(
-            from,
-            to,
-            next_from,
-            next_to,
-            s,
-            t,
-            most + 1,
-            0,
-            false,
-            tasks,
-            counts,
-        );
+        drop_edge(from, to, s, t, most + 1, tasks, counts);
         return;
     }
-    let same = most < fell_to[t];
-    if same {
+    let fell = fell_to[t];
+    if most < fell {
         if most < fell_from[s] {
             return;
         }
@@ -283,8 +335,7 @@ fn shift_one<'a>(
         s,
         t,
         most + 1,
-        most + 1,
-        same,
+        fell,
         tasks,
         counts,
     );
@@ -310,6 +361,7 @@ pub fn shift_edges<'a>(
     requires { ⌜ (tasks * 64 ≤ length (now from)) × (tasks * 64 ≤ length (now to)) × (tasks * 64 ≤ length (now «next_from»)) × (tasks * 64 ≤ length (now «next_to»)) ⌝ }
     requires { ⌜ (length (now «fell_from») ≡ 64) × (length (now «fell_to») ≡ 64) ⌝ }
     requires { ⌜ RowsFell tasks (now from) (now «next_from») (now «fell_from») × RowsFell tasks (now to) (now «next_to») (now «fell_to») ⌝ }
+    requires { ⌜ SmallRows tasks (now to) × SmallRows tasks (now «next_to») ⌝ }
     requires { ⌜ (tasks ≤ 64) × (a < tasks) × (b < tasks) × Ends tasks (edgesOf (now source) (now sink) (now delay)) ⌝ }
     requires { ⌜ CountsOf tasks (now from) (now to) (edgesOf (now source) (now sink) (now delay)) (now counts) ⌝ }
     ensures { λ _. ⌜ CountsOf tasks (now («next_from» .entry)) (now («next_to» .entry)) (withPair (keep (λ e. not (subsumesBy (now (from .entry)) (now (to .entry)) a b e)) (edgesOf (now (source .entry)) (now (sink .entry)) (now (delay .entry)))) a b) (now (counts .exit)) ⌝ }

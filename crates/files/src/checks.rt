@@ -116,8 +116,11 @@ fn edge_place(source: u8, sink: u8, delay: u8) -> usize
     (source as usize * 64 + sink as usize + delay as usize * 1657) % 4096
 }
 
+// The mark of a place that edges share. An edge that has its place to itself leaves 1 to 128 there, by its delay.
+const SHARED: u8 = 255;
+
 // Whether edge j has the source, sink and delay of an earlier one, where each earlier one is marked at the place of its numbers; edge j
-// is marked too. The earlier ones are compared only if the mark was there before.
+// is marked too. The earlier ones are compared only if its own mark was there before, or that of a shared place.
 fn repeats_marked<'a>(
     source: &'a [u8],
     sink: &'a [u8],
@@ -134,8 +137,13 @@ fn repeats_marked<'a>(
 {
     let place = edge_place(source[j], sink[j], delay[j]);
     let before = seen[place];
-    seen[place] = 1;
+    let mark = delay[j] % 128 + 1;
     if before == 0 {
+        seen[place] = mark;
+        return false;
+    }
+    seen[place] = SHARED;
+    if (before != mark) & (before != SHARED) {
         return false;
     }
     repeats_earlier(source, sink, delay, j)

@@ -10,17 +10,12 @@ ghost use Rattle.records.specs.Columns.{edgesOf};
 ghost use Rattle.marks.specs.Marks.{markAt};
 ghost use Rattle.delays.specs.Delays.{delayTable, Fit};
 ghost use Rattle.results.specs.Fronts.{HeldFront};
-ghost use Rattle.schedule.specs.Schedule.{Scheduled};
-ghost use Rattle.stages.specs.Stages.{HeldStage};
-ghost use Rattle.needed.specs.Needed.{needed};
+ghost use Rattle.needed.specs.Needed.{needed, Listed};
 use delays::has_path;
 use marks::Marks;
 use marks::is_marked;
-use readings::GraphReading;
 use redundancy::redundant_marks;
 use results::store;
-use stages::StageEdges;
-use stages::blank_stage;
 use tables::least_table;
 
 // Stores the edges that are not marked and do not lie on a cycle, where a path leads from the sink back to the source, at the front of
@@ -59,46 +54,39 @@ fn keep_needed<'a, 'b>(
     kept
 }
 
-// The feedforward edges of an accepted graph that are not redundant, in the file's sequence. The least delays between its tasks are left at the front
-// of the list, row by row.
-pub fn first_stage(graph: GraphReading, table: &mut [u16]) -> StageEdges
-    requires { ⌜ ((g : Graph) × Scheduled graph g) ⌝ }
-    requires { ⌜ graph .tasks * graph .tasks ≤ length (now table) ⌝ }
-    ensures stage { λ r. ⌜ ((g : Graph) → Scheduled graph g → HeldStage r (firstStage g)) ⌝ }
-    ensures table { λ _. ⌜ ((g : Graph) → Scheduled graph g → now (table .exit) ≡ delayTable (count g) (edges g) ++ drop (count g * count g) (now (table .entry))) ⌝ }
+// The feedforward edges of an accepted graph that are not redundant, in the file's sequence, at the front of three lists. Gives how many. The graph comes as
+// its edges, those of processors first, and a sequence of its tasks: any will do, `least_table` says which is quickest. The least delays between its tasks
+// are left at the front of the table, row by row.
+pub fn first_stage<'a, 'b>(
+    source: &'a [u8],
+    sink: &'a [u8],
+    delay: &'a [u8],
+    tasks: usize,
+    sequence: &'a [u8],
+    table: &'b mut [u16],
+    to_source: &'b mut [u8],
+    to_sink: &'b mut [u8],
+    to_delay: &'b mut [u8],
+) -> usize
+    requires { ⌜ (length (now sink) ≡ length (now source)) × (length (now delay) ≡ length (now source)) ⌝ }
+    requires { ⌜ ((g : Graph) × Listed g tasks (now source) (now sink) (now delay)) ⌝ }
+    requires { ⌜ (length (now sequence) ≤ 64) × (tasks * tasks ≤ length (now table)) ⌝ }
+    requires { ⌜ (length (now «to_source») ≡ 256) × (length (now «to_sink») ≡ 256) × (length (now «to_delay») ≡ 256) ⌝ }
+    ensures stage { λ r. ⌜ ((g : Graph) → Listed g tasks (now (source .entry)) (now (sink .entry)) (now (delay .entry)) → HeldFront 256 r (now («to_source» .exit)) (now («to_sink» .exit)) (now («to_delay» .exit)) (firstStage g)) ⌝ }
+    ensures table { λ _. ⌜ ((g : Graph) → Listed g tasks (now (source .entry)) (now (sink .entry)) (now (delay .entry)) → now (table .exit) ≡ delayTable (count g) (edges g) ++ drop (count g * count g) (now (table .entry))) ⌝ }
 {
-    let tasks = graph.tasks as usize;
-    let end = tasks + graph.edges as usize;
-    let source = graph.source;
-    let sink = graph.sink;
-    let delay = graph.delay;
-    least_table(&source[0..end], &sink[0..end], &delay[0..end], tasks, table);
-    let marks = redundant_marks(
-        &source[0..end],
-        &sink[0..end],
-        &delay[0..end],
-        &table[0..tasks * tasks],
-        tasks,
-    );
-    let stage = blank_stage();
-    let mut to_source = stage.source;
-    let mut to_sink = stage.sink;
-    let mut to_delay = stage.delay;
-    let kept = keep_needed(
+    let end = source.len();
+    least_table(source, sink, delay, tasks, sequence, table);
+    let marks = redundant_marks(source, sink, delay, &table[0..tasks * tasks], tasks);
+    keep_needed(
         &source[tasks..end],
         &sink[tasks..end],
         &delay[tasks..end],
         marks,
         &table[0..tasks * tasks],
         tasks,
-        &mut to_source,
-        &mut to_sink,
-        &mut to_delay,
-    );
-    StageEdges {
-        count: kept as u32,
-        source: to_source,
-        sink: to_sink,
-        delay: to_delay,
-    }
+        to_source,
+        to_sink,
+        to_delay,
+    )
 }

@@ -1,9 +1,9 @@
--- What a pair of tasks is worth by numbers in lists is what it is worth in the plan: a delay is 32,767 exactly where there is no path, and a
+-- What a pair of tasks is worth by numbers in lists is what it is worth in the plan: a delay is 16,383 exactly where there is no path, and a
 -- pair is in time exactly if its source ends by the latest start of its sink. The lists of one stage, with a pair added, are those of the next.
 use mathlib.Core.Path.{_≡_, refl, sym, ap, _∙_, subst}
 use mathlib.Core.Logic.{_⊎_, inl, inr, _≢_}
 use mathlib.Core.Bool.{Bool, true, false, not, _&&_}
-use mathlib.Core.List.{List, [], _∷_, List·Memᴰ·head as here, List·Memᴰ·tail as there}
+use mathlib.Core.List.{List, []}
 use mathlib.Core.Option.{Option, none, some}
 use Prim.Native.Nat.{ℕ, _+_, _*_, _≤_, _<_, min, zero-le}
 use native.Mathlib.Nat.{le-refl, add-comm}
@@ -11,7 +11,7 @@ use native.Mathlib.Omega.{arith}
 use lib.Dec.{T, eqb, eqb→eq, eqb-refl, leb, leb→le, le→leb}
 use lib.ListN.{length, getD}
 use borrow.Author.Tests.{le-leb, lt-leb}
-use Rattle.model.specs.Lists.{put, keep, counted, tabulate}
+use Rattle.model.specs.Lists.{keep, counted}
 use Rattle.model.specs.Tasks.{Edge, _∈_}
 use Rattle.model.specs.Graph.{Graph, count, timeOf, WellFormedEdges}
 use Rattle.model.specs.Paths.{Path, Least, smallest, no-path, stop, ZeroWalk, timesAlong, NoZeroCycle, Latency}
@@ -33,7 +33,7 @@ use Rattle.records.specs.Columns.{at}
 use Rattle.records.proofs.Fill.{getD-tabulate}
 use Rattle.delays.specs.Delays.{Fit}
 use Rattle.starts.proofs.Limits.{turn-fits}
-use Rattle.latest.specs.Latest.{earliestEnds, InTimeFrom, LatestStarts}
+use Rattle.latest.specs.Latest.{earliestEnds, InTimeFrom}
 use Rattle.counts.specs.Counts.{subsumesBy, CountsOf}
 use Rattle.updates.specs.Updates.{PairAdded}
 use Rattle.updates.proofs.Pairs.{keep-equal}
@@ -59,20 +59,20 @@ counted-most false w = zero-le
 
 -- ── Delays ──
 
--- a sum with 32,767, for none, is above every delay
+-- a sum with 16,383, for none, is above every delay
 sum-by-cuts : (x y : Option ℕ) (delay : ℕ) → delay ≤ 255 → leb (cut x + cut y) delay ≡ atMost (plus x y) delay
 unfolding cut atMost plus
 sum-by-cuts (some x) (some y) delay small = go (order (x + y) delay)
   where
-    go : (x + y ≤ delay) ⊎ (delay < x + y) → leb (min x 32767 + min y 32767) delay ≡ leb (x + y) delay
-    go (inl l) = le-leb (min x 32767 + min y 32767) delay (omega arith) ∙ sym (le-leb (x + y) delay l)
-    go (inr l) = lt-leb (min x 32767 + min y 32767) delay (omega arith) ∙ sym (lt-leb (x + y) delay l)
-sum-by-cuts (some x) none delay small = lt-leb (min x 32767 + 32767) delay (omega arith)
-sum-by-cuts none y delay small = lt-leb (32767 + cut y) delay (omega arith)
+    go : (x + y ≤ delay) ⊎ (delay < x + y) → leb (min x 16383 + min y 16383) delay ≡ leb (x + y) delay
+    go (inl l) = le-leb (min x 16383 + min y 16383) delay (omega arith) ∙ sym (le-leb (x + y) delay l)
+    go (inr l) = lt-leb (min x 16383 + min y 16383) delay (omega arith) ∙ sym (lt-leb (x + y) delay l)
+sum-by-cuts (some x) none delay small = lt-leb (min x 16383 + 16383) delay (omega arith)
+sum-by-cuts none y delay small = lt-leb (16383 + cut y) delay (omega arith)
 
--- a delay below 32,767 is not the one for none
-finite : (d : ℕ) (other : Bool) → d < 32767 → T (eqb (min d 32767) 32767 && other) → ⊥
-finite d other l t = let q = eqb→eq (min d 32767) 32767 (and-left (eqb (min d 32767) 32767) other t) in omega arith
+-- a delay below 16,383 is not the one for none
+finite : (d : ℕ) (other : Bool) → d < 16383 → T (eqb (min d 16383) 16383 && other) → ⊥
+finite d other l t = let q = eqb→eq (min d 16383) 16383 (and-left (eqb (min d 16383) 16383) other t) in omega arith
 
 -- cutting respects the smaller of a delay and the sum of two
 cut-step : (x y z : Option ℕ) → min (cut x) (cut y + cut z) ≡ cut (lesser x (plus y z))
@@ -141,19 +141,19 @@ module _ (g : Graph) (list : List Edge) (graph : AcceptedGraph g) (formed : Well
         ap length (keep-equal (subsumesBy from to a b) (subsumes (count g) (presentEdges g list) a b) list (subsumes-by a b la lb))
 
     -- no path leads back along a candidate
-    open-back : (a b : ℕ) → a < count g → b < count g → Candidate g list a b → at to (a * 64 + b) ≡ 32767
+    open-back : (a b : ℕ) → a < count g → b < count g → Candidate g list a b → at to (a * 64 + b) ≡ 16383
     unfolding counting ifSame cut
     open-back a b la lb c =
         ready .to-is b a lb la ∙ go (eqb b a) (eqb-decides b a) (least-delay (count g) (presentEdges g list) (present-fit .ends) b a)
       where
-        go : (same : Bool) → Decides same (b ≡ a) → {o : Option ℕ} → Least (presentEdges g list) b a o → cut (ifSame same o) ≡ 32767
+        go : (same : Bool) → Decides same (b ≡ a) → {o : Option ℕ} → Least (presentEdges g list) b a o → cut (ifSame same o) ≡ 16383
         go true same l = absurd (candidate-apart g list c (same .if-true tt))
         go false same (smallest {d = d} path below) = absurd (c .no-path-back d path)
         go false same (no-path none-back) = refl
 
     -- where no pair without a path back subsumes two edges, there is no step
     pub few-none :
-        ((a b : ℕ) → a < count g → b < 64 → at to (a * 64 + b) ≡ 32767 → at counts (a * 64 + b) < 2) → step g list ≡ none
+        ((a b : ℕ) → a < count g → b < 64 → at to (a * 64 + b) ≡ 16383 → at counts (a * 64 + b) < 2) → step g list ≡ none
     unfolding worth counted
     few-none few = step-none g list (λ a b la lb. go a b la lb (isCandidate g list a b) (candidate-is g list off a b la lb))
       where
@@ -232,19 +232,19 @@ module _ (g : Graph) (list : List Edge) (graph : AcceptedGraph g) (formed : Well
                 omega arith
 
     abbrev tested : ℕ → ℕ → Bool
-    tested a b = eqb (at to (a * 64 + b)) 32767 && leb (at end a) (at latest b)
+    tested a b = eqb (at to (a * 64 + b)) 16383 && leb (at end a) (at latest b)
 
     candidate-by : (a b : ℕ) → a < count g → b < count g → Decides (tested a b) (Candidate g list a b)
     unfolding counting ifSame cut
     candidate-by a b la lb =
-        subst (λ (x : ℕ). Decides (eqb x 32767 && leb (at end a) (at latest b)) (Candidate g list a b)) (sym (ready .to-is b a lb la))
+        subst (λ (x : ℕ). Decides (eqb x 16383 && leb (at end a) (at latest b)) (Candidate g list a b)) (sym (ready .to-is b a lb la))
         (go (eqb b a) (eqb-decides b a) (least-delay (count g) (presentEdges g list) (present-fit .ends) b a))
       where
         early : Bool
         early = leb (at end a) (at latest b)
 
         go : (same : Bool) → Decides same (b ≡ a) → {o : Option ℕ} → Least (presentEdges g list) b a o →
-            Decides (eqb (cut (ifSame same o)) 32767 && leb (at end a) (at latest b)) (Candidate g list a b)
+            Decides (eqb (cut (ifSame same o)) 16383 && leb (at end a) (at latest b)) (Candidate g list a b)
         go true same l = decides-iff (λ t. absurd (finite 0 early (omega arith) t)) (λ c. absurd (candidate-apart g list c (same .if-true tt)))
         go false same (smallest {d = d} path below) =
             let least : Least (presentEdges g list) b a (some d) = smallest path below in
@@ -253,8 +253,8 @@ module _ (g : Graph) (list : List Edge) (graph : AcceptedGraph g) (formed : Well
         go false same (no-path none-back) =
             let timely = in-time-by a b la lb none-back in
             decides-iff
-            (λ t. record { source-task = la; sink-task = lb; no-path-back = none-back; in-time = timely .if-true (and-right (eqb 32767 32767) early t) })
-            (λ c. and-both (eqb 32767 32767) early (eqb-refl 32767) (decides-true timely (c .in-time)))
+            (λ t. record { source-task = la; sink-task = lb; no-path-back = none-back; in-time = timely .if-true (and-right (eqb 16383 16383) early t) })
+            (λ c. and-both (eqb 16383 16383) early (eqb-refl 16383) (decides-true timely (c .in-time)))
 
     worth-by : (a b : ℕ) → a < count g → b < count g → worthIn counts to end latest a b ≡ worth g list a b
     unfolding worthIn worth gain

@@ -12,12 +12,10 @@ use Rattle.model.specs.Plan.{replaced, Candidate, firstStage, step, planOf, pla
 use Rattle.records.specs.Columns.{edgesOf}
 use Rattle.delays.specs.Delays.{delayTable}
 use Rattle.results.specs.Fronts.{HeldFront}
-use Rattle.stages.specs.Stages.{HeldStage}
 use Rattle.prepared.specs.Ready.{Ready}
 use Rattle.present.specs.Present.{Staged, Clocked, Ordered, Timed}
 use Rattle.plans.specs.declared.StepAnswer.{StepAnswer}
 use Rattle.plans.specs.declared.Walked.{Walked}
-use Rattle.plans.specs.declared.FoundPlan.{FoundPlan}
 
 -- what a step starts from: a stage in lists, with its delays, counts and times
 pub record Here (g : Graph) (list : List Edge) (tasks many : ℕ) (source sink delay from to counts end latest : List ℕ) : Type 0 where
@@ -39,12 +37,16 @@ pub record Stepped (g : Graph) (list : List Edge) (r : StepAnswer) (source sink 
   pub if-taken : r .taken ≡ true → Taken g list r source sink delay from to counts
   pub if-not : r .taken ≡ false → (step g list ≡ none) × HeldFront 256 (r .count) source sink delay list
 
--- what the plan starts from: an accepted graph, by its edges, times, output, bound, latency and table of least delays, and its first stage
-pub record Starts (g : Graph) (graph-source graph-sink graph-delay time : List ℕ) (output bound latency many : ℕ) (source sink delay table : List ℕ) : Type 0 where
+-- what the plan is made from: an accepted graph, as its edges, times, output, bound and latency
+pub record Lent (g : Graph) (source sink delay time : List ℕ) (output bound latency : ℕ) : Type 0 where
   pub graph : AcceptedGraph g
-  pub edges-are : edgesOf graph-source graph-sink graph-delay ≡ edges g
+  pub edges-are : edgesOf source sink delay ≡ edges g
   pub clocked : Clocked g time output bound
   pub latency-is : latency ≡ latencyOf g
+
+-- what it starts from: the same with the first stage and the table of least delays
+pub record Starts (g : Graph) (graph-source graph-sink graph-delay time : List ℕ) (output bound latency many : ℕ) (source sink delay table : List ℕ) : Type 0 where
+  pub lent : Lent g graph-source graph-sink graph-delay time output bound latency
   pub held : HeldFront 256 many source sink delay (firstStage g)
   pub past : List ℕ
   pub table-is : table ≡ delayTable (count g) (edges g) ++ past
@@ -60,9 +62,3 @@ pub record Followed (g : Graph) (r : Walked) (source sink delay : List ℕ) : Ty
   pub steps : r .steps ≡ planOf g .steps
   pub latency : r .latency ≡ planLatency g
   pub held : HeldFront 256 (r .count) source sink delay (planOf g .list)
-
--- what planning a graph gives
-pub record PlanAnswered (g : Graph) (r : FoundPlan) : Type 0 where
-  pub steps : r .steps ≡ planOf g .steps
-  pub latency : r .latency ≡ planLatency g
-  pub held : HeldStage (r .stage) (planOf g .list)

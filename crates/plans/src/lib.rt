@@ -7,16 +7,12 @@ ghost use mathlib.Core.Path.{_≡_};
 ghost use Prim.Native.Nat.{ℕ, _*_, _≤_};
 ghost use lib.ListN.{length};
 ghost use Rattle.model.specs.Graph.{Graph};
-ghost use Rattle.model.specs.Compute.{latencyOf};
 ghost use Rattle.records.specs.Columns.{at};
-ghost use Rattle.schedule.specs.Schedule.{Scheduled};
-ghost use Rattle.plans.specs.Plans.{Starts, Followed, PlanAnswered};
+ghost use Rattle.plans.specs.Plans.{Lent, Starts, Followed};
 use candidates::has_pair;
 use needed::first_stage;
 use prepared::start;
 use present::first_times;
-use readings::GraphReading;
-use stages::StageEdges;
 pub use steps::step;
 pub use walking::follow_steps;
 
@@ -33,13 +29,6 @@ pub struct Walked {
     pub count: usize,
     pub steps: u32,
     pub latency: u32,
-}
-
-// A plan: how many steps were taken, the latency of the graph they lead to, and the last stage.
-pub struct FoundPlan {
-    pub steps: u32,
-    pub latency: u32,
-    pub stage: StageEdges,
 }
 
 // The plan of an accepted graph from its first stage on, whose edges the lists hold; then they hold the plan's. The graph comes as its edges, its times, its
@@ -128,7 +117,7 @@ fn plan_from<'a, 'b>(
     )
 }
 
-// The same with lists of its own: of few tasks small ones will do, which are sooner cleared.
+// The same with lists of its own: the fewer the tasks, the smaller the lists that will do, which are sooner cleared.
 fn plan_in_lists<'a, 'b>(
     graph_source: &'a [u8],
     graph_sink: &'a [u8],
@@ -147,6 +136,32 @@ fn plan_in_lists<'a, 'b>(
     requires { ⌜ ((g : Graph) × Starts g (now «graph_source») (now «graph_sink») (now «graph_delay») (now time) output bound latency first (now source) (now sink) (now delay) (now table)) ⌝ }
     ensures { λ r. ⌜ ((g : Graph) → Starts g (now («graph_source» .entry)) (now («graph_sink» .entry)) (now («graph_delay» .entry)) (now (time .entry)) output bound latency first (now (source .entry)) (now (sink .entry)) (now (delay .entry)) (now (table .entry)) → Followed g r (now (source .exit)) (now (sink .exit)) (now (delay .exit))) ⌝ }
 {
+    if time.len() <= 8 {
+        let mut from: [u16; 512] = [0; 512];
+        let mut to: [u16; 512] = [0; 512];
+        let mut counts: [u16; 512] = [0; 512];
+        let mut old_from: [u16; 512] = [0; 512];
+        let mut old_to: [u16; 512] = [0; 512];
+        return plan_from(
+            graph_source,
+            graph_sink,
+            graph_delay,
+            time,
+            output,
+            bound,
+            latency,
+            first,
+            source,
+            sink,
+            delay,
+            table,
+            &mut from,
+            &mut to,
+            &mut counts,
+            &mut old_from,
+            &mut old_to,
+        );
+    }
     if time.len() <= 16 {
         let mut from: [u16; 1024] = [0; 1024];
         let mut to: [u16; 1024] = [0; 1024];
@@ -199,65 +214,112 @@ fn plan_in_lists<'a, 'b>(
     )
 }
 
-// The plan of an accepted graph, whose latency is known, with room for a table of least delays. With fewer than two edges there is no step, and the latency
-// stays.
-fn plan_by(graph: GraphReading, latency: u32, table: &mut [u16]) -> FoundPlan
-    requires { ⌜ ((g : Graph) × Scheduled graph g × (latency ≡ latencyOf g)) ⌝ }
-    requires { ⌜ graph .tasks * graph .tasks ≤ length (now table) ⌝ }
-    ensures { λ r. ⌜ ((g : Graph) → Scheduled graph g → latency ≡ latencyOf g → PlanAnswered g r) ⌝ }
+// The plan of an accepted graph, with room for a table of least delays; three lists hold its edges then. The graph comes as its edges, its times, a sequence
+// of its tasks, which only makes the table quicker, its output, its bound and its latency. With fewer than two edges there is no step.
+fn plan_by<'a, 'b>(
+    graph_source: &'a [u8],
+    graph_sink: &'a [u8],
+    graph_delay: &'a [u8],
+    time: &'a [u16],
+    sequence: &'a [u8],
+    output: usize,
+    bound: u32,
+    latency: u32,
+    source: &'b mut [u8],
+    sink: &'b mut [u8],
+    delay: &'b mut [u8],
+    table: &'b mut [u16],
+) -> Walked
+    requires { ⌜ (length (now «graph_sink») ≡ length (now «graph_source»)) × (length (now «graph_delay») ≡ length (now «graph_source»)) ⌝ }
+    requires { ⌜ ((g : Graph) × Lent g (now «graph_source») (now «graph_sink») (now «graph_delay») (now time) output bound latency) ⌝ }
+    requires { ⌜ (length (now sequence) ≤ 64) × (length (now time) * length (now time) ≤ length (now table)) ⌝ }
+    requires { ⌜ (length (now source) ≡ 256) × (length (now sink) ≡ 256) × (length (now delay) ≡ 256) ⌝ }
+    ensures { λ r. ⌜ ((g : Graph) → Lent g (now («graph_source» .entry)) (now («graph_sink» .entry)) (now («graph_delay» .entry)) (now (time .entry)) output bound latency → Followed g r (now (source .exit)) (now (sink .exit)) (now (delay .exit))) ⌝ }
 {
-    let stage = first_stage(graph, table);
-    if stage.count < 2 {
-        return FoundPlan {
+    let first = first_stage(
+        graph_source,
+        graph_sink,
+        graph_delay,
+        time.len(),
+        sequence,
+        table,
+        source,
+        sink,
+        delay,
+    );
+    if first < 2 {
+        return Walked {
+            count: first,
             steps: 0,
             latency,
-            stage,
         };
     }
-    let tasks = graph.tasks as usize;
-    let all = tasks + graph.edges as usize;
-    let graph_source = graph.source;
-    let graph_sink = graph.sink;
-    let graph_delay = graph.delay;
-    let time = graph.time;
-    let mut source = stage.source;
-    let mut sink = stage.sink;
-    let mut delay = stage.delay;
-    let walked = plan_in_lists(
-        &graph_source[0..all],
-        &graph_sink[0..all],
-        &graph_delay[0..all],
-        &time[0..tasks],
-        graph.output as usize,
-        graph.bound,
+    plan_in_lists(
+        graph_source,
+        graph_sink,
+        graph_delay,
+        time,
+        output,
+        bound,
         latency,
-        stage.count as usize,
-        &mut source,
-        &mut sink,
-        &mut delay,
+        first,
+        source,
+        sink,
+        delay,
         table,
-    );
-    FoundPlan {
-        steps: walked.steps,
-        latency: walked.latency,
-        stage: StageEdges {
-            count: walked.count as u32,
+    )
+}
+
+// The same with a table of its own: of few tasks a small one will do, which is sooner cleared.
+pub fn planned<'a, 'b>(
+    graph_source: &'a [u8],
+    graph_sink: &'a [u8],
+    graph_delay: &'a [u8],
+    time: &'a [u16],
+    sequence: &'a [u8],
+    output: usize,
+    bound: u32,
+    latency: u32,
+    source: &'b mut [u8],
+    sink: &'b mut [u8],
+    delay: &'b mut [u8],
+) -> Walked
+    requires { ⌜ (length (now «graph_sink») ≡ length (now «graph_source»)) × (length (now «graph_delay») ≡ length (now «graph_source»)) ⌝ }
+    requires { ⌜ ((g : Graph) × Lent g (now «graph_source») (now «graph_sink») (now «graph_delay») (now time) output bound latency) ⌝ }
+    requires { ⌜ length (now sequence) ≤ 64 ⌝ }
+    requires { ⌜ (length (now source) ≡ 256) × (length (now sink) ≡ 256) × (length (now delay) ≡ 256) ⌝ }
+    ensures { λ r. ⌜ ((g : Graph) → Lent g (now («graph_source» .entry)) (now («graph_sink» .entry)) (now («graph_delay» .entry)) (now (time .entry)) output bound latency → Followed g r (now (source .exit)) (now (sink .exit)) (now (delay .exit))) ⌝ }
+{
+    if time.len() <= 16 {
+        let mut small: [u16; 256] = [0; 256];
+        return plan_by(
+            graph_source,
+            graph_sink,
+            graph_delay,
+            time,
+            sequence,
+            output,
+            bound,
+            latency,
             source,
             sink,
             delay,
-        },
-    }
-}
-
-// The plan of an accepted graph, whose latency is known. Of few tasks a small table will do, which is sooner cleared.
-pub fn planned(graph: GraphReading, latency: u32) -> FoundPlan
-    requires { ⌜ ((g : Graph) × Scheduled graph g × (latency ≡ latencyOf g)) ⌝ }
-    ensures { λ r. ⌜ ((g : Graph) → Scheduled graph g → latency ≡ latencyOf g → PlanAnswered g r) ⌝ }
-{
-    if graph.tasks <= 16 {
-        let mut small: [u16; 256] = [0; 256];
-        return plan_by(graph, latency, &mut small);
+            &mut small,
+        );
     }
     let mut table: [u16; 4096] = [0; 4096];
-    plan_by(graph, latency, &mut table)
+    plan_by(
+        graph_source,
+        graph_sink,
+        graph_delay,
+        time,
+        sequence,
+        output,
+        bound,
+        latency,
+        source,
+        sink,
+        delay,
+        &mut table,
+    )
 }

@@ -24,7 +24,7 @@ use Rattle.prepared.specs.Ready.{cut, Ready}
 -- ── Numbers ──
 
 -- an entry of the table, cut
-entry-cut : (x : Option ℕ) → min (entry x) 32767 ≡ cut x
+entry-cut : (x : Option ℕ) → min (entry x) 16383 ≡ cut x
 unfolding entry cut
 entry-cut (some d) = refl
 entry-cut none = omega arith
@@ -49,10 +49,10 @@ module _ {tasks : ℕ} {g : Graph} (accepted : AcceptedGraph g) (same : tasks �
         ((λ i. at (countTable (same i) (edges g)) (x * same i + y)) ∙ counts-at (count g) (edges g) x y lx ly)
 
     cut-is : (x y : ℕ) → x < count g → y < count g → (p : ℕ) → p ≡ x * tasks + y →
-        min (at table p) 32767 ≡ cut (counting (count g) (presentEdges g (firstStage g)) x y)
+        min (at table p) 16383 ≡ cut (counting (count g) (presentEdges g (firstStage g)) x y)
     cut-is x y lx ly p place =
-        ap (λ (q : ℕ). min (at table q) 32767) place ∙
-        (ap (λ (v : ℕ). min v 32767) (entry-is x y lx ly) ∙
+        ap (λ (q : ℕ). min (at table q) 16383) place ∙
+        (ap (λ (v : ℕ). min v 16383) (entry-is x y lx ly) ∙
         (entry-cut (counting (count g) (edges g) x y) ∙ ap cut (sym (first-counting g accepted x y))))
 
     pub first-ready :

@@ -11,10 +11,10 @@ use Rattle.records.specs.Columns.{at}
 use Rattle.counts.specs.Counts.{CountsOf}
 use Rattle.updates.specs.Updates.{Small}
 
--- a delay cut at 32,767, which stands for none too
+-- a delay cut at 16,383, which stands for none too
 unfoldable pub cut : Option ℕ → ℕ
-cut (some d) = min d 32767
-cut none = 32767
+cut (some d) = min d 16383
+cut none = 16383
 
 -- The lists hold the least delays of the present graph, 0 from a task to itself, in rows by their source and in rows by their sink, and how many edges of the
 -- stage each pair subsumes.

@@ -1,7 +1,8 @@
 // Tasks and edges of a file, and processor edges, into lists of numbers: one list for each number of a task or of an edge.
 ghost use mathlib.Core.Path.{_≡_};
+ghost use mathlib.Core.Bool.{true};
 ghost use mathlib.Core.List.{List};
-ghost use Prim.Native.Nat.{_+_, _≤_, _<_};
+ghost use Prim.Native.Nat.{_+_, _*_, _/_, _≤_, _<_};
 ghost use lib.ListN.{length, getD, take, replicate};
 ghost use Rattle.model.specs.Lists.{tabulate};
 ghost use Rattle.model.specs.Tasks.{Task};
@@ -13,6 +14,16 @@ use layout::EdgeRecord;
 use layout::GRAPH_HEADER_BITS;
 use layout::RECORD_BITS;
 
+// Two records. From a byte's start on they are five bytes, and are read at once.
+const PAIR_BITS: usize = 2 * RECORD_BITS;
+
+// Whether two records or more are left, and the next two are five bytes that are all there.
+fn pair_at(bytes: &[u8], at: usize, left: usize) -> bool
+    ensures { λ r. ⌜ (r ≡ true → (at / 8 * 8 ≡ at) × (at / 8 + 4 < length (now (bytes .entry))) × (1 < left)) ⌝ }
+{
+    (at & 7 == 0) & (((at >> 3) + 4 < bytes.len()) & (left > 1))
+}
+
 // The tasks of a graph file, as many as the lists have room for.
 pub fn read_tasks<'a>(bytes: &[u8], processor: &'a mut [u8], time: &'a mut [u16])
     requires { ⌜ length (now processor) ≤ 64 ⌝ }
@@ -23,11 +34,21 @@ pub fn read_tasks<'a>(bytes: &[u8], processor: &'a mut [u8], time: &'a mut [u16]
     let mut at = GRAPH_HEADER_BITS;
     let mut v = 0;
     while v < processor.len() {
-        let task = layout::task_at(bytes, at);
-        processor[v] = task.processor;
-        time[v] = task.time;
-        at += RECORD_BITS;
-        v += 1;
+        if pair_at(bytes, at, processor.len() - v) {
+            let two = bits::five_within(bytes, at >> 3);
+            processor[v] = ((two >> 36) & 0xf) as u8;
+            time[v] = ((two >> 20) & 0xffff) as u16;
+            processor[v + 1] = ((two >> 16) & 0xf) as u8;
+            time[v + 1] = (two & 0xffff) as u16;
+            at += PAIR_BITS;
+            v += 2;
+        } else {
+            let task = layout::task_at(bytes, at);
+            processor[v] = task.processor;
+            time[v] = task.time;
+            at += RECORD_BITS;
+            v += 1;
+        }
     }
 }
 
@@ -50,12 +71,24 @@ pub fn read_edges<'a>(
     let mut at = position;
     let mut j = 0;
     while j < source.len() {
-        let edge = layout::edge_at(bytes, at);
-        source[j] = edge.source;
-        sink[j] = edge.sink;
-        delay[j] = edge.delay;
-        at += RECORD_BITS;
-        j += 1;
+        if pair_at(bytes, at, source.len() - j) {
+            let two = bits::five_within(bytes, at >> 3);
+            source[j] = ((two >> 34) & 0x3f) as u8;
+            sink[j] = ((two >> 28) & 0x3f) as u8;
+            delay[j] = ((two >> 20) & 0xff) as u8;
+            source[j + 1] = ((two >> 14) & 0x3f) as u8;
+            sink[j + 1] = ((two >> 8) & 0x3f) as u8;
+            delay[j + 1] = (two & 0xff) as u8;
+            at += PAIR_BITS;
+            j += 2;
+        } else {
+            let edge = layout::edge_at(bytes, at);
+            source[j] = edge.source;
+            sink[j] = edge.sink;
+            delay[j] = edge.delay;
+            at += RECORD_BITS;
+            j += 1;
+        }
     }
 }
 

@@ -15,7 +15,7 @@ pub record CrowdsSoFar (source sink delay : List ℕ) (used : ℕ) (rows seconds
   pub crowds : Crowds source sink delay rows seconds
   pub size : length seconds ≡ 832
   pub taken : (s : ℕ) → s < 64 → getD rows s 0 < 13 → getD rows s 0 < used
-  pub blank : (i : ℕ) → used * 64 ≤ i → i < 832 → getD seconds i 0 ≡ 32767
+  pub blank : (i : ℕ) → used * 64 ≤ i → i < 832 → getD seconds i 0 ≡ 16383
 
 module _ {n : ℕ} {source sink delay table : List ℕ} (tabled : Tabled n source sink delay table) where
   source-small : (own : ℕ) → own < length source → getD source own 0 < 64
@@ -31,12 +31,12 @@ module _ {n : ℕ} {source sink delay table : List ℕ} (tabled : Tabled n sourc
     tells = λ own inside l. let is = no-row no-rows (getD source own 0) (source-small own inside) in absurd (omega arith);
   }
 
-  pub crowds-none : {rows seconds : List ℕ} → rows ≡ replicate 64 13 → seconds ≡ replicate 832 32767 → CrowdsSoFar source sink delay 0 rows seconds
+  pub crowds-none : {rows seconds : List ℕ} → rows ≡ replicate 64 13 → seconds ≡ replicate 832 16383 → CrowdsSoFar source sink delay 0 rows seconds
   crowds-none no-rows far = record {
     crowds = no-crowds no-rows;
-    size = ap length far ∙ length-replicate {A = ℕ} 832 32767;
+    size = ap length far ∙ length-replicate {A = ℕ} 832 16383;
     taken = λ s small l. let is = no-row no-rows s small in absurd (omega arith);
-    blank = λ i from l. ap (λ (xs : List ℕ). getD xs i 0) far ∙ getD-replicate {A = ℕ} 832 i 32767 0 l;
+    blank = λ i from l. ap (λ (xs : List ℕ). getD xs i 0) far ∙ getD-replicate {A = ℕ} 832 i 16383 0 l;
   }
 
   -- a row for task s

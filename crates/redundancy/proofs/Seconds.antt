@@ -22,10 +22,10 @@ use Rattle.redundancy.proofs.Ways.{way-decided, way-for-way}
 
 -- the least and the second least number of a task with the sum of an edge and the table's entry for it
 abbrev pub leastWith : List ℕ → ℕ → ℕ → List ℕ → ℕ → ℕ
-leastWith table start way least b = min (getD least b 0) (way + min (getD table (start + b) 0) 32767)
+leastWith table start way least b = min (getD least b 0) (way + min (getD table (start + b) 0) 16383)
 
 abbrev pub secondWith : List ℕ → ℕ → ℕ → ℕ → List ℕ → List ℕ → ℕ → ℕ
-secondWith table start way at least seconds b = min (getD seconds (at + b) 0) (max (getD least b 0) (way + min (getD table (start + b) 0) 32767))
+secondWith table start way at least seconds b = min (getD seconds (at + b) 0) (max (getD least b 0) (way + min (getD table (start + b) 0) 16383))
 
 -- All tasks are done, and then that of the edge's sink is put right.
 module _
@@ -62,7 +62,7 @@ module _
               (y-is ∙ ap (λ (i : ℕ). min (getD seconds (at + i) 0) (max (getD least i 0) way)) (sym same))),
         )
         each b l (inr other) = (
-          way + min (getD table (next * n + b) 0) 32767,
+          way + min (getD table (next * n + b) 0) 16383,
           inr (λ q. other (sym q), refl),
           getD-set-other low next b x 0 other ∙ front-done lows b l,
           getD-set-other high (at + next) (at + b) y 0 (λ q. other (omega arith)) ∙ highs .done b l,
@@ -248,17 +248,17 @@ pub record RowSoFar (source sink delay : List ℕ) (s at j : ℕ) (before least 
       Ranked source sink delay own j (getD least (getD sink own 0) 0) (getD seconds (at + getD sink own 0) 0)
 
 module _ {n : ℕ} {source sink delay table : List ℕ} (tabled : Tabled n source sink delay table) (s at : ℕ) where
-  pub row-none : {j : ℕ} {before : List ℕ} → NextOut source s 0 j → ((b : ℕ) → b < 64 → getD before (at + b) 0 ≡ 32767) →
-      RowSoFar source sink delay s at j before (replicate 64 32767) before
+  pub row-none : {j : ℕ} {before : List ℕ} → NextOut source s 0 j → ((b : ℕ) → b < 64 → getD before (at + b) 0 ≡ 16383) →
+      RowSoFar source sink delay s at j before (replicate 64 16383) before
   row-none {j} {before} out far = record {
-    least-size = length-replicate {A = ℕ} 64 32767;
+    least-size = length-replicate {A = ℕ} 64 16383;
     size = refl;
     outside = λ i out. refl;
     ranked = λ own inside is.
         let most = short tabled own inside in
         let b = getD sink own 0 in
         let small : b < 64 = omega (arith, ends-below tabled own inside .1, tabled .few) in
-        let first = getD-replicate {A = ℕ} 64 b 32767 0 small in
+        let first = getD-replicate {A = ℕ} 64 b 16383 0 small in
         let second = far b small in
         ranked-none source sink delay own (omega arith) (omega arith) (subst (λ (t : ℕ). NextOut source t 0 j) (sym is) out);
   }

@@ -41,9 +41,9 @@ pub record Chained (source : List ℕ) (from : ℕ) (head link : List ℕ) : Typ
   pub starts : (s : ℕ) → s < 64 → NextOut source s from (getD head s 0)
   pub goes-on : (j : ℕ) → from ≤ j → j < length source → NextOut source (getD source j 0) (j + 1) (getD link j 0)
 
--- the delay of an edge to task `next` with, where b is another task, the table's delay from there on, cut at 32,767
+-- the delay of an edge to task `next` with, where b is another task, the table's delay from there on, cut at 16,383
 abbrev pub Sum : ℕ → List ℕ → ℕ → ℕ → ℕ → ℕ → Type 0
-Sum n table next way b v = ((next ≡ b) × (v ≡ way)) ⊎ ((next ≢ b) × (v ≡ way + min (getD table (next * n + b) 0) 32767))
+Sum n table next way b v = ((next ≡ b) × (v ≡ way)) ⊎ ((next ≢ b) × (v ≡ way + min (getD table (next * n + b) 0) 16383))
 
 -- Such a sum is taken into the least and the second least number of each of n tasks; the second ones stand in a list from a place on.
 pub record EdgeTaken (n : ℕ) (table : List ℕ) (next way at : ℕ) (least seconds least-after seconds-after : List ℕ) : Type 0 where

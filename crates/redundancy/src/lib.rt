@@ -17,7 +17,7 @@ use sweeps::greater;
 use sweeps::lesser;
 
 // No path: above every delay of an edge, and so small that the sum with one fits 16 bits.
-const FAR: u16 = 32767;
+const FAR: u16 = 16383;
 
 // So many edges out of a task that going through them for all sinks at once takes no longer than trying each against the others.
 const MANY: u16 = 24;
@@ -159,7 +159,7 @@ fn take_row<'a, 'b>(
     at: usize,
     seconds: &mut [u16],
 )
-    requires { ⌜ (s < 64) × (at + 64 ≤ length (now seconds)) × (length (now seconds) ≡ 832) × ((b : ℕ) → b < 64 → getD (now seconds) (at + b) 0 ≡ 32767) ⌝ }
+    requires { ⌜ (s < 64) × (at + 64 ≤ length (now seconds)) × (length (now seconds) ≡ 832) × ((b : ℕ) → b < 64 → getD (now seconds) (at + b) 0 ≡ 16383) ⌝ }
     requires { ⌜ Tabled tasks (now source) (now sink) (now delay) (now table) ⌝ }
     requires { ⌜ Chained (now source) 0 (now head) (now link) ⌝ }
     ensures { λ _. ⌜ RowTaken (now (source .entry)) (now (sink .entry)) (now (delay .entry)) s at (now (seconds .entry)) (now (seconds .exit)) ⌝ }
@@ -189,7 +189,7 @@ fn take_crowds<'a, 'b, 'c>(
     rows: &'c mut [u8],
     seconds: &'c mut [u16],
 )
-    requires { ⌜ (length (now degree) ≡ 64) × (now rows ≡ replicate 64 13) × (now seconds ≡ replicate 832 32767) ⌝ }
+    requires { ⌜ (length (now degree) ≡ 64) × (now rows ≡ replicate 64 13) × (now seconds ≡ replicate 832 16383) ⌝ }
     requires { ⌜ Tabled tasks (now source) (now sink) (now delay) (now table) ⌝ }
     requires { ⌜ Chained (now source) 0 (now head) (now link) ⌝ }
     ensures { λ _. ⌜ Crowds (now (source .entry)) (now (sink .entry)) (now (delay .entry)) (now (rows .exit)) (now (seconds .exit)) ⌝ }

@@ -3,7 +3,7 @@
 use mathlib.Core.Path.{_≡_, refl, sym, ap, _∙_, subst}
 use mathlib.Core.Logic.{_⊎_, inl, inr, _≢_}
 use mathlib.Core.List.{List, [], _∷_}
-use Prim.Native.Nat.{ℕ, _≤_, zero-le}
+use Prim.Native.Nat.{ℕ, _+_, _≤_, zero-le}
 use native.Mathlib.Nat.{le-trans}
 use native.Mathlib.Omega.{arith}
 use lib.ListN.{length, take}
@@ -17,20 +17,22 @@ use Rattle.files.specs.declared.Refusal.{Refusal}
 use Rattle.files.specs.Refusals.{first, ifPassed}
 use Rattle.files.specs.Files.{graphOf}
 use Rattle.files.proofs.First.{number-same, zero-or-not, if-passed, if-refused}
-use Rattle.readings.proofs.Held.{graph-given}
 use Rattle.schedule.specs.declared.Acceptance.{Acceptance}
-use Rattle.schedule.specs.Schedule.{acceptanceRefusal, acceptance, Scheduled}
+use Rattle.schedule.specs.Schedule.{acceptanceRefusal, acceptance}
+use Rattle.schedule.proofs.Fronts.{front}
 use Rattle.schedule.proofs.Judged.{accepted-iff-passed}
 use Rattle.stages.specs.declared.StageEdges.{StageEdges}
 use Rattle.stages.specs.Stages.{recordsOf, writtenInto, HeldStage}
-use Rattle.plans.specs.declared.FoundPlan.{FoundPlan}
-use Rattle.plans.specs.Plans.{PlanAnswered}
+use Rattle.stages.proofs.Staged.{held-stage, front-few}
+use Rattle.plans.specs.declared.Walked.{Walked}
+use Rattle.plans.specs.Plans.{Lent, Followed}
+use Rattle.plans.proofs.Beginning.{lent-reading}
 use Rattle.resync.specs.declared.Outcome.{Outcome}
 use Rattle.resync.specs.declared.PlanAnswer.{PlanAnswer}
 use Rattle.resync.specs.Calls.{outcome, roomRefusal}
 use Rattle.resync.specs.Plan.{planRefusal, planAnswerOf, planAfter, plannedEdges}
 use Rattle.resync.proofs.Planned.{plan-few}
-use Rattle.resync.proofs.Checked.{room-there, same-room, refusal-given, latency-given, reading-given, accepted, read-fronts}
+use Rattle.resync.proofs.Checked.{room-there, same-room, refusal-given, latency-given, accepted, read-fronts}
 
 -- ── What is decided ──
 
@@ -75,12 +77,12 @@ module _ (s : List ℕ) (room : ℕ) where
     all-edges = whole (planOf (graphOf s) .list) []
 
     passed-answer :
-        {o : Outcome} {r : FoundPlan} → o ≡ outcome (planRefusal s room) → PlanAnswered (graphOf s) r →
-        _≡_ {A = PlanAnswer} (record { outcome = o; length = r .stage .count; steps = r .steps; latency = r .latency }) (planAnswerOf s room)
+        {o : Outcome} {r : Walked} {source sink delay : List ℕ} → o ≡ outcome (planRefusal s room) → Followed (graphOf s) r source sink delay →
+        _≡_ {A = PlanAnswer} (record { outcome = o; length = r .count; steps = r .steps; latency = r .latency }) (planAnswerOf s room)
     unfolding planAnswerOf
     passed-answer told found = λ i. record {
       outcome = told i;
-      length = (found .held .as-many ∙ whole (length (planOf (graphOf s) .list)) 0) i;
+      length = (found .held .sources .as-many ∙ whole (length (planOf (graphOf s) .list)) 0) i;
       steps = (found .steps ∙ whole (planOf (graphOf s) .steps) 0) i;
       latency = (found .latency ∙ whole (planLatency (graphOf s)) 0) i;
     }
@@ -123,22 +125,27 @@ module _ (s : List ℕ) (room : ℕ) where
       passed : planRefusal s room .number ≡ 0
       passed = number-same (sym refusal-is) ∙ none
 
-      before : r .refusal .number ≡ 0
+      pub before : r .refusal .number ≡ 0
       before = number-same (refusal-given s is) ∙ passed-before passed .0
 
-      pub read-scheduled : Scheduled (r .reading) (graphOf s)
-      read-scheduled = record { accepted = accepted s is before .1; graph-is = reading-given s is ∙ graph-given s (accepted s is before .0) }
+      pub read-lent :
+          Lent (graphOf s) (front (r .reading .tasks + r .reading .edges) (r .reading .source))
+          (front (r .reading .tasks + r .reading .edges) (r .reading .sink)) (front (r .reading .tasks + r .reading .edges) (r .reading .delay))
+          (front (r .reading .tasks) (r .reading .time)) (r .reading .output) (r .reading .bound) (r .latency)
+      read-lent =
+          lent-reading (accepted s is before .1) (read-fronts s is before)
+          (latency-given s is ∙ if-passed (acceptanceRefusal s .number) (latencyOf (graphOf s)) 0 (passed-before passed .0))
 
-      pub read-latency : r .latency ≡ latencyOf (graphOf s)
-      read-latency = latency-given s is ∙ if-passed (acceptanceRefusal s .number) (latencyOf (graphOf s)) 0 (passed-before passed .0)
+      module _ {w : Walked} {source sink delay : List ℕ} (found : Followed (graphOf s) w source sink delay) where
+        pub answer-planned :
+            {o : Outcome} → o ≡ outcome q →
+            _≡_ {A = PlanAnswer} (record { outcome = o; length = w .count; steps = w .steps; latency = w .latency }) (planAnswerOf s room)
+        answer-planned told = passed-answer passed (told ∙ ap outcome refusal-is) found
 
-      pub answer-planned :
-          {o : Outcome} {f : FoundPlan} → o ≡ outcome q → PlanAnswered (graphOf s) f →
-          _≡_ {A = PlanAnswer} (record { outcome = o; length = f .stage .count; steps = f .steps; latency = f .latency }) (planAnswerOf s room)
-      answer-planned told found = passed-answer passed (told ∙ ap outcome refusal-is) found
-
-      pub stage-planned : {f : FoundPlan} → PlanAnswered (graphOf s) f → HeldStage (f .stage) (plannedEdges s room)
-      stage-planned {f} found = subst (λ (es : List Edge). HeldStage (f .stage) es) (all-edges passed) (found .held)
+        pub stage-planned : HeldStage (record { count = w .count; source = source; sink = sink; delay = delay }) (plannedEdges s room)
+        stage-planned =
+            subst (λ (es : List Edge). HeldStage (record { count = w .count; source = source; sink = sink; delay = delay }) es) (all-edges passed)
+            (held-stage (found .held) (front-few (found .held)))
 
 -- ── What is written ──
 

@@ -95,6 +95,7 @@ pub fn figures(graph: &[u8]) -> GraphFigures
     let mut source: [u8; 320] = [0; 320];
     let mut sink: [u8; 320] = [0; 320];
     let mut delay: [u8; 320] = [0; 320];
+    let mut sequence: [u8; 64] = [0; 64];
     let accepted = accept_into(
         graph,
         &mut processor,
@@ -102,6 +103,7 @@ pub fn figures(graph: &[u8]) -> GraphFigures
         &mut source,
         &mut sink,
         &mut delay,
+        &mut sequence,
     );
     let refusal = accepted.refusal;
     let outcome = told(refusal);
@@ -132,6 +134,7 @@ pub fn least_delays(graph: &[u8], table: &mut [u16]) -> Outcome
     let mut source: [u8; 320] = [0; 320];
     let mut sink: [u8; 320] = [0; 320];
     let mut delay: [u8; 320] = [0; 320];
+    let mut sequence: [u8; 64] = [0; 64];
     let accepted = accept_into(
         graph,
         &mut processor,
@@ -139,6 +142,7 @@ pub fn least_delays(graph: &[u8], table: &mut [u16]) -> Outcome
         &mut source,
         &mut sink,
         &mut delay,
+        &mut sequence,
     );
     let numbers = accepted.numbers;
     let tasks = numbers.tasks as usize;
@@ -147,7 +151,14 @@ pub fn least_delays(graph: &[u8], table: &mut [u16]) -> Outcome
         return told(refusal);
     }
     let end = tasks + numbers.edges as usize;
-    least_table(&source[0..end], &sink[0..end], &delay[0..end], tasks, table);
+    least_table(
+        &source[0..end],
+        &sink[0..end],
+        &delay[0..end],
+        tasks,
+        &sequence[0..tasks],
+        table,
+    );
     told(refusal)
 }
 
@@ -157,30 +168,37 @@ fn marks_by<'a>(
     sink: &'a [u8],
     delay: &'a [u8],
     tasks: usize,
+    sequence: &'a [u8],
     table: &mut [u16],
 ) -> Marks
     requires { ⌜ (length (now sink) ≡ length (now source)) × (length (now delay) ≡ length (now source)) ⌝ }
-    requires { ⌜ (tasks ≤ 64) × (length (now source) ≤ 320) × (tasks * tasks ≤ length (now table)) ⌝ }
+    requires { ⌜ (tasks ≤ 64) × (length (now source) ≤ 320) × (tasks * tasks ≤ length (now table)) × (length (now sequence) ≤ 64) ⌝ }
     requires { ⌜ Fit tasks (edgesOf (now source) (now sink) (now delay)) ⌝ }
     ensures { λ r. ⌜ ((g : Graph) → HeldGraph g tasks (edgesOf (now (source .entry)) (now (sink .entry)) (now (delay .entry))) → r ≡ marksOf (isRedundant g)) ⌝ }
 {
-    least_table(source, sink, delay, tasks, table);
+    least_table(source, sink, delay, tasks, sequence, table);
     redundant_marks(source, sink, delay, &table[0..tasks * tasks], tasks)
 }
 
 // The same by a table no larger than so many tasks ask for.
-fn redundant_edges<'a>(source: &'a [u8], sink: &'a [u8], delay: &'a [u8], tasks: usize) -> Marks
+fn redundant_edges<'a>(
+    source: &'a [u8],
+    sink: &'a [u8],
+    delay: &'a [u8],
+    tasks: usize,
+    sequence: &'a [u8],
+) -> Marks
     requires { ⌜ (length (now sink) ≡ length (now source)) × (length (now delay) ≡ length (now source)) ⌝ }
-    requires { ⌜ (tasks ≤ 64) × (length (now source) ≤ 320) ⌝ }
+    requires { ⌜ (tasks ≤ 64) × (length (now source) ≤ 320) × (length (now sequence) ≤ 64) ⌝ }
     requires { ⌜ Fit tasks (edgesOf (now source) (now sink) (now delay)) ⌝ }
     ensures { λ r. ⌜ ((g : Graph) → HeldGraph g tasks (edgesOf (now (source .entry)) (now (sink .entry)) (now (delay .entry))) → r ≡ marksOf (isRedundant g)) ⌝ }
 {
     if tasks <= FEW {
         let mut small: [u16; 256] = [0; 256];
-        return marks_by(source, sink, delay, tasks, &mut small);
+        return marks_by(source, sink, delay, tasks, sequence, &mut small);
     }
     let mut table: [u16; 4096] = [0; 4096];
-    marks_by(source, sink, delay, tasks, &mut table)
+    marks_by(source, sink, delay, tasks, sequence, &mut table)
 }
 
 // The marks of the redundant edges, edge 1 the most significant bit of the first word, and how many are set.
@@ -192,6 +210,7 @@ pub fn redundant(graph: &[u8]) -> RedundantSet
     let mut source: [u8; 320] = [0; 320];
     let mut sink: [u8; 320] = [0; 320];
     let mut delay: [u8; 320] = [0; 320];
+    let mut sequence: [u8; 64] = [0; 64];
     let accepted = accept_into(
         graph,
         &mut processor,
@@ -199,6 +218,7 @@ pub fn redundant(graph: &[u8]) -> RedundantSet
         &mut source,
         &mut sink,
         &mut delay,
+        &mut sequence,
     );
     let refusal = accepted.refusal;
     let outcome = told(refusal);
@@ -213,7 +233,13 @@ pub fn redundant(graph: &[u8]) -> RedundantSet
     let numbers = accepted.numbers;
     let tasks = numbers.tasks as usize;
     let end = tasks + numbers.edges as usize;
-    let marks = redundant_edges(&source[0..end], &sink[0..end], &delay[0..end], tasks);
+    let marks = redundant_edges(
+        &source[0..end],
+        &sink[0..end],
+        &delay[0..end],
+        tasks,
+        &sequence[0..tasks],
+    );
     let count = marks::count(marks);
     RedundantSet {
         outcome,
@@ -243,6 +269,7 @@ pub fn timetable(graph: &[u8], turns: usize, starts: &mut [u32]) -> Outcome
     let mut source: [u8; 320] = [0; 320];
     let mut sink: [u8; 320] = [0; 320];
     let mut delay: [u8; 320] = [0; 320];
+    let mut sequence: [u8; 64] = [0; 64];
     let accepted = accept_into(
         graph,
         &mut processor,
@@ -250,6 +277,7 @@ pub fn timetable(graph: &[u8], turns: usize, starts: &mut [u32]) -> Outcome
         &mut source,
         &mut sink,
         &mut delay,
+        &mut sequence,
     );
     let numbers = accepted.numbers;
     let tasks = numbers.tasks as usize;

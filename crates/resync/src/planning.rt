@@ -8,7 +8,7 @@ use crate::calls::told;
 use crate::calls::with_room;
 use layout::EdgeRecord;
 use plans::planned;
-use schedule::accept;
+use schedule::accept_into;
 use stages::StageEdges;
 use stages::blank_stage;
 use stages::fill;
@@ -24,9 +24,23 @@ fn decide(graph: &[u8], room: usize) -> Decided
     ensures answer { λ r. ⌜ r .answer ≡ planAnswerOf (now (graph .entry)) room ⌝ }
     ensures stage { λ r. ⌜ HeldStage (r .stage) (plannedEdges (now (graph .entry)) room) ⌝ }
 {
-    let accepted = accept(graph);
-    let reading = accepted.reading;
-    let refusal = with_room(accepted.refusal, reading.edges as usize, room);
+    let mut processor: [u8; 64] = [0; 64];
+    let mut time: [u16; 64] = [0; 64];
+    let mut source: [u8; 320] = [0; 320];
+    let mut sink: [u8; 320] = [0; 320];
+    let mut delay: [u8; 320] = [0; 320];
+    let mut sequence: [u8; 64] = [0; 64];
+    let accepted = accept_into(
+        graph,
+        &mut processor,
+        &mut time,
+        &mut source,
+        &mut sink,
+        &mut delay,
+        &mut sequence,
+    );
+    let numbers = accepted.numbers;
+    let refusal = with_room(accepted.refusal, numbers.edges as usize, room);
     let outcome = told(refusal);
     if refusal.number != 0 {
         let none = blank_stage();
@@ -40,16 +54,39 @@ fn decide(graph: &[u8], room: usize) -> Decided
             stage: none,
         };
     }
-    let plan = planned(reading, accepted.latency);
-    let stage = plan.stage;
+    let tasks = numbers.tasks as usize;
+    let end = tasks + numbers.edges as usize;
+    let output = numbers.output as usize;
+    let mut to_source: [u8; 256] = [0; 256];
+    let mut to_sink: [u8; 256] = [0; 256];
+    let mut to_delay: [u8; 256] = [0; 256];
+    let plan = planned(
+        &source[0..end],
+        &sink[0..end],
+        &delay[0..end],
+        &time[0..tasks],
+        &sequence[0..tasks],
+        output,
+        numbers.bound,
+        accepted.latency,
+        &mut to_source,
+        &mut to_sink,
+        &mut to_delay,
+    );
+    let length = plan.count as u32;
     Decided {
         answer: PlanAnswer {
             outcome,
-            length: stage.count,
+            length,
             steps: plan.steps,
             latency: plan.latency,
         },
-        stage,
+        stage: StageEdges {
+            count: length,
+            source: to_source,
+            sink: to_sink,
+            delay: to_delay,
+        },
     }
 }
 

@@ -78,6 +78,7 @@ pub fn verdict(graph: &[u8], proposal: &[u8]) -> ProposalVerdict
     let mut source: [u8; 320] = [0; 320];
     let mut sink: [u8; 320] = [0; 320];
     let mut delay: [u8; 320] = [0; 320];
+    let mut sequence: [u8; 64] = [0; 64];
     let accepted = accept_into(
         graph,
         &mut processor,
@@ -85,6 +86,7 @@ pub fn verdict(graph: &[u8], proposal: &[u8]) -> ProposalVerdict
         &mut source,
         &mut sink,
         &mut delay,
+        &mut sequence,
     );
     let unaccepted = accepted.refusal;
     if unaccepted.number != 0 {
@@ -116,6 +118,7 @@ pub fn verdict(graph: &[u8], proposal: &[u8]) -> ProposalVerdict
         &proposed_source,
         &proposed_sink,
         &proposed_delay,
+        &sequence[0..numbers.tasks as usize],
     );
     weighed(judged, numbers.bound)
 }

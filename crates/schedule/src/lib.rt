@@ -253,7 +253,8 @@ fn is_reached(reached: u64, input: usize, output: usize) -> bool
     (reached >> output) & 1 != 0
 }
 
-// Checks 9 to 12: the first turn tells all that they ask for.
+// Checks 9 to 12: the first turn tells all that they ask for. A list takes the tasks in the sequence in which that turn took them; nothing is promised
+// of what it holds.
 fn check_schedule<'a>(
     source: &'a [u8],
     sink: &'a [u8],
@@ -262,9 +263,10 @@ fn check_schedule<'a>(
     input: usize,
     output: usize,
     bound: u32,
+    sequence: &mut [u8],
 ) -> Checked
     requires { ⌜ (length (now sink) ≡ length (now source)) × (length (now delay) ≡ length (now source)) ⌝ }
-    requires { ⌜ (length (now time) ≤ 64) × (output < length (now time)) ⌝ }
+    requires { ⌜ (length (now time) ≤ 64) × (output < length (now time)) × (length (now sequence) ≡ 64) ⌝ }
     requires { ⌜ Fit (length (now time)) (edgesOf (now source) (now sink) (now delay)) ⌝ }
     requires { ⌜ FileTimes (now time) ⌝ }
     ensures refusal { λ r. ⌜ r .refusal ≡ scheduleChecks (length (now (time .entry))) (edgesOf (now (source .entry)) (now (sink .entry)) (now (delay .entry))) (at (now (time .entry))) input output bound ⌝ }
@@ -276,7 +278,15 @@ fn check_schedule<'a>(
     }
     let blank = blank_row();
     let mut start = blank.reached;
-    let turn = first_turn(source, sink, delay, time, input, &mut start[0..tasks]);
+    let turn = first_turn(
+        source,
+        sink,
+        delay,
+        time,
+        input,
+        &mut start[0..tasks],
+        sequence,
+    );
     if !turn.found {
         return check_in_order(source, sink, delay, time, input, output, bound);
     }
@@ -305,7 +315,8 @@ fn check_schedule<'a>(
     }
 }
 
-// Reads a graph file and judges it up to 12, for every list of bytes: its lists in place of zeros.
+// Reads a graph file and judges it up to 12, for every list of bytes: its lists in place of zeros. A further list takes the tasks in a
+// sequence, as the first turn took them; nothing is promised of what it holds.
 pub fn accept_into<'a>(
     graph: &[u8],
     processor: &'a mut [u8],
@@ -313,8 +324,9 @@ pub fn accept_into<'a>(
     source: &'a mut [u8],
     sink: &'a mut [u8],
     delay: &'a mut [u8],
+    sequence: &'a mut [u8],
 ) -> Accepted
-    requires { ⌜ (now processor ≡ zeros 64) × (now time ≡ zeros 64) ⌝ }
+    requires { ⌜ (now processor ≡ zeros 64) × (now time ≡ zeros 64) × (length (now sequence) ≡ 64) ⌝ }
     requires { ⌜ (now source ≡ zeros 320) × (now sink ≡ zeros 320) × (now delay ≡ zeros 320) ⌝ }
     ensures { λ r. ⌜ acceptanceFrom r (now (processor .exit)) (now (time .exit)) (now (source .exit)) (now (sink .exit)) (now (delay .exit)) ≡ acceptance (now (graph .entry)) ⌝ }
 {
@@ -337,6 +349,7 @@ pub fn accept_into<'a>(
         numbers.input as usize,
         numbers.output as usize,
         numbers.bound,
+        sequence,
     );
     let judged = checked.refusal;
     Accepted {
@@ -355,6 +368,7 @@ pub fn accept(graph: &[u8]) -> Acceptance
     let mut source: [u8; 320] = [0; 320];
     let mut sink: [u8; 320] = [0; 320];
     let mut delay: [u8; 320] = [0; 320];
+    let mut sequence: [u8; 64] = [0; 64];
     let accepted = accept_into(
         graph,
         &mut processor,
@@ -362,6 +376,7 @@ pub fn accept(graph: &[u8]) -> Acceptance
         &mut source,
         &mut sink,
         &mut delay,
+        &mut sequence,
     );
     let refusal = accepted.refusal;
     let numbers = accepted.numbers;

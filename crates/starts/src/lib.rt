@@ -222,7 +222,16 @@ pub fn latency<'a>(
     let tasks = time.len();
     let starts = no_starts();
     let mut start = starts.start;
-    let turn = first_turn(source, sink, delay, time, output, &mut start[0..tasks]);
+    let mut sequence: [u8; 64] = [0; 64];
+    let turn = first_turn(
+        source,
+        sink,
+        delay,
+        time,
+        output,
+        &mut start[0..tasks],
+        &mut sequence,
+    );
     if turn.found {
         return start[output] + time[output] as u32;
     }

@@ -1,5 +1,6 @@
 -- Two passes over edges, one by one: the table of strengths grows by the strength of the edge looked at, and what is stored behind the edges gathered
--- so far is gathered too, if it is as strong as the table tells. Then for every edge one that is as strong is among those gathered.
+-- so far is gathered too, if it is as strong as the table tells. Then for every edge one that is as strong is among those gathered,
+-- to its sink or to the task before it that has outdone it.
 use mathlib.Core.Path.{_≡_, refl, sym, ap, _∙_, subst}
 use mathlib.Core.Logic.{_⊎_, inl, inr}
 use mathlib.Core.List.{List}
@@ -10,11 +11,11 @@ use lib.ListN.{length, getD, set, length-set, replicate, length-replicate, getD-
 use lib.Seq.{getD-set-same, getD-set-other}
 use Rattle.model.proofs.Basics.{order}
 use Rattle.waits.specs.Waits.{HeldAt}
-use Rattle.strongest.specs.Strongest.{strength, Pairs, HasStrength, Strengths, Gathered, AsStrong, Strongest}
+use Rattle.strongest.specs.Strongest.{strength, Pairs, HasStrength, Strengths, Outdone, Carried, Gathered, AsStrong, Strongest}
 
 -- the place of an edge's pair, and its strength
 abbrev pub pairAt : List ℕ → List ℕ → List ℕ → ℕ → ℕ
-pairAt processor source sink j = getD processor (getD source j 0) 0 * 64 + getD sink j 0
+pairAt processor source sink j = getD sink j 0 * 16 + getD processor (getD source j 0) 0
 
 abbrev pub strengthAt : List ℕ → List ℕ → ℕ → ℕ
 strengthAt source delay j = strength (getD source j 0) (getD delay j 0)
@@ -37,19 +38,20 @@ module _ {processor : List ℕ} {tasks all : ℕ} {source sink delay : List ℕ}
 
 -- ── The table of strengths ──
 
-module _ (processor source sink delay : List ℕ) (begun : ℕ) where
-  blank-at : (table : List ℕ) → table ≡ replicate 1024 0 → (x : ℕ) → getD table x 0 ≡ 0
-  blank-at table is x = go (order 1024 x)
-    where
-      go : (1024 ≤ x) ⊎ (x < 1024) → getD table x 0 ≡ 0
-      go (inl past) = List·getD-eq-default table 0 (subst (λ (m : ℕ). m ≤ x) (sym (ap length is ∙ length-replicate {A = ℕ} 1024 0)) past)
-      go (inr l) = ap (λ (xs : List ℕ). getD xs x 0) is ∙ getD-replicate 1024 x 0 0 l
+-- a list of zeros tells 0 everywhere
+pub blank-at : (n : ℕ) (table : List ℕ) → table ≡ replicate n 0 → (x : ℕ) → getD table x 0 ≡ 0
+blank-at n table is x = go (order n x)
+  where
+    go : (n ≤ x) ⊎ (x < n) → getD table x 0 ≡ 0
+    go (inl past) = List·getD-eq-default table 0 (subst (λ (m : ℕ). m ≤ x) (sym (ap length is ∙ length-replicate {A = ℕ} n 0)) past)
+    go (inr l) = ap (λ (xs : List ℕ). getD xs x 0) is ∙ getD-replicate n x 0 0 l
 
+module _ (processor source sink delay : List ℕ) (begun : ℕ) where
   pub strengths-none : (table : List ℕ) → table ≡ replicate 1024 0 → Strengths processor source sink delay begun begun table
   strengths-none table is = record {
     room = ap length is ∙ length-replicate {A = ℕ} 1024 0;
     above = λ j h l. absurd (omega arith);
-    reached = λ x. inl (blank-at table is x);
+    reached = λ x. inl (blank-at 1024 table is x);
   }
 
   module _ {m : ℕ} {table : List ℕ} (done : Strengths processor source sink delay begun m table) (later : begun ≤ m) {a w x : ℕ}
@@ -171,7 +173,7 @@ module _ (processor table source sink delay : List ℕ) (begun : ℕ) where
     d-is = done .behind m (le-refl m) .2
 
     pub gathered-step :
-        (r : ℕ) → r ≤ 1 → (getD table (getD processor s 0 * 64 + t) 0 ≡ strength s d → r ≡ 1) →
+        (r : ℕ) → r ≤ 1 → (getD table (t * 16 + getD processor s 0) 0 ≡ strength s d → r ≡ 1) →
         Gathered processor table source sink delay begun (m + 1) (set xs count s) (set ys count t) (set zs count d) (count + r)
     gathered-step r small one = record {
       started = let before = done .started in omega arith;
@@ -229,8 +231,8 @@ module _ (processor table source sink delay : List ℕ) (begun : ℕ) where
             let same : m ≡ j = omega arith in
             let counted : r ≡ 1 =
             one
-            (subst (λ (a : ℕ). getD table (getD processor a 0 * 64 + t) 0 ≡ strength a d) (sym s-is)
-            (subst (λ (b : ℕ). getD table (getD processor (getD source m 0) 0 * 64 + b) 0 ≡ strength (getD source m 0) d) (sym t-is)
+            (subst (λ (a : ℕ). getD table (t * 16 + getD processor a 0) 0 ≡ strength a d) (sym s-is)
+            (subst (λ (b : ℕ). getD table (b * 16 + getD processor (getD source m 0) 0) 0 ≡ strength (getD source m 0) d) (sym t-is)
             (subst (λ (c : ℕ). getD table (pairAt processor source sink m) 0 ≡ strength (getD source m 0) c) (sym d-is)
             (subst (λ (i : ℕ). getD table (pairAt processor source sink i) 0 ≡ strengthAt source delay i) (sym same) strong)))) in record {
               place = count;
@@ -261,11 +263,44 @@ module _ {processor : List ℕ} {tasks all : ℕ} {source sink delay : List ℕ}
     room-delay = refl;
     sound = λ k l. record { place = k; inside = l; from = refl; to = refl; late = refl };
     own = λ v l. record { place = v; inside = let first = given .own-first in omega arith; from = refl; to = refl; late = refl };
-    strong = λ j h l. record { place = j; inside = l; same = refl; to = refl; strong = le-refl _ };
+    strong = λ j h l. record { place = j; inside = l; same = refl; before = le-refl _; own = refl; strong = le-refl _ };
   }
 
-  module _ {table xs ys zs : List ℕ} {count : ℕ} (told : Strengths processor source sink delay tasks all table)
-      (kept : Gathered processor table source sink delay tasks all xs ys zs count) where
+  module _ {found table xs ys zs : List ℕ} {count : ℕ} (first : Strengths processor source sink delay tasks all found)
+      (left : Carried processor tasks found table) (kept : Gathered processor table source sink delay tasks all xs ys zs count) where
+    abbrev awaited : ℕ → ℕ
+    awaited j = getD processor (getD source j 0) 0
+
+    -- if a strength is still told of a task that is an edge's sink or comes before it, and as great as the edge's, an edge that has it is gathered
+    told-kept :
+        (j u : ℕ) → j < all → u ≤ getD sink j 0 → getD processor u 0 ≡ getD processor (getD sink j 0) 0 →
+        getD table (u * 16 + awaited j) 0 ≡ getD found (u * 16 + awaited j) 0 → strengthAt source delay j ≤ getD found (u * 16 + awaited j) 0 →
+        (getD found (u * 16 + awaited j) 0 ≡ 0)
+        ⊎ HasStrength processor source sink delay tasks all (u * 16 + awaited j) (getD found (u * 16 + awaited j) 0)
+        → AsStrong processor xs ys zs count (awaited j) (getD sink j 0) (strengthAt source delay j)
+    told-kept j u l before own told more (inl none) = absurd (omega arith)
+    told-kept j u l before own told more (inr h) =
+        let i = h .place in
+        let there =
+        kept .whole i (h .inside)
+        (inr (ap (λ (p : ℕ). getD table p 0) (h .paired) ∙ (told ∙ sym (h .strong)))) in
+        let small = processor-small given i (h .inside) in
+        let small′ = processor-small given j l in
+        let paired = h .paired in
+        let same-sink : getD sink i 0 ≡ u = omega (arith, paired, small, small′) in
+        let same-processor : awaited i ≡ awaited j = omega (arith, paired, small, small′) in
+        let to : getD ys (there .place) 0 ≡ u = there .to ∙ same-sink in record {
+          place = there .place;
+          inside = there .inside;
+          same = ap (λ (a : ℕ). getD processor a 0) (there .from) ∙ same-processor;
+          before = omega (arith, to, before);
+          own = ap (λ (a : ℕ). getD processor a 0) to ∙ own;
+          strong =
+              subst (λ (a : ℕ). strengthAt source delay j ≤ strength a (getD zs (there .place) 0)) (sym (there .from))
+              (subst (λ (b : ℕ). strengthAt source delay j ≤ strength (getD source i 0) b) (sym (there .late))
+              (subst (λ (w : ℕ). strengthAt source delay j ≤ w) (sym (h .strong)) more));
+        }
+
     pub strongest-kept : Strongest processor tasks all source sink delay xs ys zs count
     strongest-kept = record {
       few = kept .few;
@@ -274,31 +309,15 @@ module _ {processor : List ℕ} {tasks all : ℕ} {source sink delay : List ℕ}
       room-delay = kept .room-delay;
       sound = kept .sound;
       own = λ v l. kept .whole v (let first = given .own-first in omega arith) (inl l);
-      strong = λ j h l. strong j l (told .above j h l) (told .reached (pairAt processor source sink j));
+      strong = λ j h l. strong j l (first .above j h l) (left .entry (getD sink j 0) (awaited j) (given .ends j l .1) (processor-small given j l));
     }
       where
-        strong : (j : ℕ) → j < all → strengthAt source delay j ≤ getD table (pairAt processor source sink j) 0 →
-            (getD table (pairAt processor source sink j) 0 ≡ 0) ⊎
-            HasStrength processor source sink delay tasks all (pairAt processor source sink j) (getD table (pairAt processor source sink j) 0)
-            → AsStrong processor xs ys zs count (getD processor (getD source j 0) 0) (getD sink j 0) (strengthAt source delay j)
-        strong j l more (inl none) = absurd (omega arith)
-        strong j l more (inr h) =
-            let i = h .place in
-            let found =
-            kept .whole i (h .inside)
-            (inr (ap (λ (p : ℕ). getD table p 0) (h .paired) ∙ sym (h .strong))) in
-            let t-small = sink-small given i (h .inside) in
-            let u-small = sink-small given j l in
-            let paired = h .paired in
-            let same-sink : getD sink i 0 ≡ getD sink j 0 = omega (arith, paired, t-small, u-small) in
-            let same-processor : getD processor (getD source i 0) 0 ≡ getD processor (getD source j 0) 0 = omega (arith, paired, t-small, u-small) in
-            record {
-              place = found .place;
-              inside = found .inside;
-              same = ap (λ (a : ℕ). getD processor a 0) (found .from) ∙ same-processor;
-              to = found .to ∙ same-sink;
-              strong =
-                  subst (λ (a : ℕ). strengthAt source delay j ≤ strength a (getD zs (found .place) 0)) (sym (found .from))
-                  (subst (λ (b : ℕ). strengthAt source delay j ≤ strength (getD source i 0) b) (sym (found .late))
-                  (subst (λ (w : ℕ). strengthAt source delay j ≤ w) (sym (h .strong)) more));
-            }
+        strong : (j : ℕ) → j < all → strengthAt source delay j ≤ getD found (pairAt processor source sink j) 0 →
+            (getD table (pairAt processor source sink j) 0 ≡ getD found (pairAt processor source sink j) 0) ⊎
+            Outdone processor found table (getD sink j 0) (awaited j)
+            → AsStrong processor xs ys zs count (awaited j) (getD sink j 0) (strengthAt source delay j)
+        strong j l more (inl told) = told-kept j (getD sink j 0) l (le-refl _) refl told more (first .reached (pairAt processor source sink j))
+        strong j l more (inr o) =
+            let earlier = o .before in
+            let stronger = o .strong in
+            told-kept j (o .task) l (omega arith) (o .own) (o .told) (omega arith) (first .reached (o .task * 16 + awaited j))

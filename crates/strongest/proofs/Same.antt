@@ -1,11 +1,12 @@
--- Edges of a graph with the strongest waits left have the graph's earliest starts: a weaker wait is held by a path over its processor, onward to the
--- source of the stronger one or once around to it, and by the stronger one. So a run keeps either list of edges exactly if it keeps the other.
+-- Edges of a graph with the strongest waits left have the graph's earliest starts: a weaker wait is held by a path over the awaited processor, onward to
+-- the source of the stronger one or once around to it, by the stronger one, and by a path onward over the processor of its sink. So a run keeps either
+-- list of edges exactly if it keeps the other.
 use mathlib.Core.Path.{_≡_, refl, sym, ap, _∙_, subst}
 use mathlib.Core.Logic.{_⊎_, inl, inr}
 use mathlib.Core.Bool.{false}
 use mathlib.Core.List.{List}
 use Prim.Native.Nat.{ℕ, _+_, _-_, _≤_, _<_}
-use native.Mathlib.Nat.{le-refl, le-antisymm, sub-zero, eq-or-lt-of-le}
+use native.Mathlib.Nat.{le-refl, le-antisymm, add-zero, sub-zero, eq-or-lt-of-le}
 use native.Mathlib.Omega.{arith}
 use lib.ListN.{length, getD, take}
 use lib.Seq.{length-take-le, getD-take}
@@ -145,26 +146,35 @@ module _
     rest-serial : Serial (count g) rest
     rest-serial v l = path-re-base rest-processors (processor-serial (g .tasks) v l)
 
-    -- a wait is held by one that is as strong
+    -- a wait is held, up to the sink of one that is as strong, by that one
     by-stronger :
-        (e f : Edge) → e .source < count g → f .source < count g → processorOf (g .tasks) (e .source) ≡ processorOf (g .tasks) (f .source) →
-        f .sink ≡ e .sink → f ∈ rest → (f .delay < e .delay) ⊎ ((f .delay ≡ e .delay) × (e .source ≤ f .source)) →
-        (d : ℕ) × Path rest (e .source) (e .sink) d × (d ≤ e .delay)
-    by-stronger e f l l′ same to m (inl less) = (
+        (e f : Edge) → e .source < count g → f .source < count g → processorOf (g .tasks) (e .source) ≡ processorOf (g .tasks) (f .source) → f ∈ rest →
+        (f .delay < e .delay) ⊎ ((f .delay ≡ e .delay) × (e .source ≤ f .source)) → (d : ℕ) × Path rest (e .source) (f .sink) d × (d ≤ e .delay)
+    by-stronger e f l l′ same m (inl less) = (
       1 + f .delay,
-      path-ends refl to (path-append (path-re-base rest-processors (processor-around (g .tasks) (e .source) (f .source) l l′ same)) (path-edge m)),
+      path-append (path-re-base rest-processors (processor-around (g .tasks) (e .source) (f .source) l l′ same)) (path-edge m),
       omega arith,
     )
-    by-stronger e f l l′ same to m (inr h) = go (eq-or-lt-of-le (h .1))
+    by-stronger e f l l′ same m (inr h) = go (eq-or-lt-of-le (h .1))
       where
-        go : (e .source ≡ f .source) ⊎ (e .source < f .source) → (d : ℕ) × Path rest (e .source) (e .sink) d × (d ≤ e .delay)
-        go (inl q) = (f .delay, path-ends (sym q) to (path-edge m), let late = h .0 in omega arith)
+        go : (e .source ≡ f .source) ⊎ (e .source < f .source) → (d : ℕ) × Path rest (e .source) (f .sink) d × (d ≤ e .delay)
+        go (inl q) = (f .delay, path-ends (sym q) refl (path-edge m), let late = h .0 in omega arith)
         go (inr before) = (
           0 + f .delay,
-          path-ends refl to
-              (path-append (path-re-base rest-processors (processor-onward (g .tasks) (e .source) (f .source) before l′ same)) (path-edge m)),
+          path-append (path-re-base rest-processors (processor-onward (g .tasks) (e .source) (f .source) before l′ same)) (path-edge m),
           let late = h .0 in omega arith,
         )
+
+    -- what leads to a task leads on to those after it on its processor
+    onward :
+        (a u v d : ℕ) → v < count g → u ≤ v → processorOf (g .tasks) u ≡ processorOf (g .tasks) v → Path rest a u d → Path rest a v d
+    onward a u v d l before same p = go (eq-or-lt-of-le before)
+      where
+        go : (u ≡ v) ⊎ (u < v) → Path rest a v d
+        go (inl q) = path-ends refl q p
+        go (inr less) =
+            subst (λ (m : ℕ). Path rest a v m) (add-zero d)
+            (path-append p (path-re-base rest-processors (processor-onward (g .tasks) u v less l same)))
 
     ends : Ends (count g) (edges g)
     ends = graph-ends g (well .syncs-formed .ends)
@@ -181,11 +191,19 @@ module _
         let e-there = graph-edge j l in
         let s-below = ends e e-there .0 in
         let f-below = ends f f-there .0 in
+        let t-below = ends e e-there .1 in
+        let u-below = ends f f-there .1 in
         let few = well .at-most-64 in
+        let up-to =
         by-stronger e f s-below f-below
-        (sym (processors-are (getD source j 0) s-below) ∙ (sym (h .same) ∙ processors-are (getD xs (h .place) 0) f-below)) (h .to) f-in
+        (sym (processors-are (getD source j 0) s-below) ∙ (sym (h .same) ∙ processors-are (getD xs (h .place) 0) f-below)) f-in
         (stronger (getD source j 0) (getD delay j 0) (getD xs (h .place) 0) (getD zs (h .place) 0) (omega (arith, few, s-below))
-        (omega (arith, few, f-below)) (graph-delays g (well .syncs-formed) e e-there) (graph-delays g (well .syncs-formed) f f-there) (h .strong))
+        (omega (arith, few, f-below)) (graph-delays g (well .syncs-formed) e e-there) (graph-delays g (well .syncs-formed) f f-there) (h .strong)) in (
+          up-to .0,
+          onward (getD source j 0) (getD ys (h .place) 0) (getD sink j 0) (up-to .0) t-below (h .before)
+              (sym (processors-are (getD ys (h .place) 0) u-below) ∙ (h .own ∙ processors-are (getD sink j 0) t-below)) (up-to .1),
+          up-to .2,
+        )
 
     at-place : (j : ℕ) → j < all → (count g ≤ j) ⊎ (j < count g) →
         (d : ℕ) × Path rest (heldEdge source sink delay j .source) (heldEdge source sink delay j .sink) d × (d ≤ heldEdge source sink delay j .delay)

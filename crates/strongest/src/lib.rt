@@ -1,9 +1,10 @@
 // Of the waits of one task for tasks of one processor, only the strongest can bind: tasks of a processor end one after the other, so who has
-// waited for it has waited for the others. The rest are left out here.
+// waited for it has waited for the others. Nor does it bind if a task before on the waiting one's processor has one as strong for the same
+// processor, since a task starts no earlier than the tasks before it end. The waits that cannot bind are left out here.
 ghost use mathlib.Core.Path.{_≡_};
-ghost use Prim.Native.Nat.{_+_, _*_, _≤_, _<_, max};
-ghost use lib.ListN.{length, replicate};
-ghost use Rattle.strongest.specs.Strongest.{Pairs, strength, Strengths, Gathered, Strongest};
+ghost use Prim.Native.Nat.{ℕ, _+_, _*_, _≤_, _<_, max};
+ghost use lib.ListN.{length, getD, replicate};
+ghost use Rattle.strongest.specs.Strongest.{Pairs, strength, Strengths, Carried, Gathered, Strongest};
 
 // Fewer edges than this are not worth the search.
 const FEW: usize = 96;
@@ -38,13 +39,13 @@ fn one_if_equal(a: u16, b: u16) -> usize
     0
 }
 
-// The place of a processor and a task in a table of such pairs.
+// The place of a processor and a task in a table with a row for each task.
 fn pair(processor: u8, task: u8) -> usize
     requires { ⌜ (processor < 16) × (task < 64) ⌝ }
-    ensures value { λ r. ⌜ r ≡ processor * 64 + task ⌝ }
+    ensures value { λ r. ⌜ r ≡ task * 16 + processor ⌝ }
     ensures inside { λ r. ⌜ r < 1024 ⌝ }
 {
-    processor as usize * 64 + task as usize
+    task as usize * 16 + processor as usize
 }
 
 // The greatest strength of a wait for each processor by each task, over the edges from `tasks` on.
@@ -67,6 +68,41 @@ fn find_strengths<'a>(
         let at = pair(processor[s as usize], sink[j]);
         table[at] = greater(table[at], strength(s, delay[j]));
         j += 1;
+    }
+}
+
+// A strength if it is above the one before, else 0.
+fn if_above(here: u16, before: u16) -> u16
+    ensures above { λ r. ⌜ (before < here → r ≡ here) ⌝ }
+    ensures below { λ r. ⌜ (here ≤ before → r ≡ 0) ⌝ }
+{
+    if before < here {
+        return here;
+    }
+    0
+}
+
+// Makes 0 of a task's strength for a processor if a task before it on its own processor has one at least as great for the same.
+fn carry(processor: &[u8], tasks: usize, table: &mut [u16])
+    requires { ⌜ (tasks ≤ 64) × (tasks ≤ length (now processor)) × ((v : ℕ) → v < tasks → getD (now processor) v 0 < 16) ⌝ }
+    requires { ⌜ length (now table) ≡ 1024 ⌝ }
+    ensures { λ _. ⌜ Carried (now (processor .entry)) tasks (now (table .entry)) (now (table .exit)) ⌝ }
+{
+    // the greatest strength so far, by the processor of the task and the one it waits for
+    let mut carried: [u16; 256] = [0; 256];
+    let mut t = 0;
+    while t < tasks {
+        let own = processor[t] as usize * 16;
+        let at = t * 16;
+        let mut p = 0;
+        while p < 16 {
+            let here = table[at + p];
+            let before = carried[own + p];
+            table[at + p] = if_above(here, before);
+            carried[own + p] = greater(here, before);
+            p += 1;
+        }
+        t += 1;
     }
 }
 
@@ -118,5 +154,6 @@ pub fn keep_strongest<'a>(
     }
     let mut table: [u16; 1024] = [0; 1024];
     find_strengths(processor, tasks, all, source, sink, delay, &mut table);
+    carry(processor, tasks, &mut table);
     gather(processor, &table, tasks, all, source, sink, delay)
 }

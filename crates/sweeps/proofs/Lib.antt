@@ -2,5 +2,5 @@
 pub mod Parts
 mod Rows
 pub mod Over
-mod Looks
-mod Settled
+pub mod Looks
+pub mod Settled

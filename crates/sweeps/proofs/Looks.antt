@@ -29,7 +29,7 @@ sum-low (x ∷ xs) (y ∷ ys) size low =
     let rest = sum-low xs ys (omega arith) (λ i. low (suc i)) in
     omega arith
 
-sum-less : (xs ys : List ℕ) → length xs ≡ length ys → ((i : ℕ) → getD xs i 0 ≤ getD ys i 0) → (k : ℕ) → k < length ys → getD xs k 0 < getD ys k 0 → sum xs < sum ys
+pub sum-less : (xs ys : List ℕ) → length xs ≡ length ys → ((i : ℕ) → getD xs i 0 ≤ getD ys i 0) → (k : ℕ) → k < length ys → getD xs k 0 < getD ys k 0 → sum xs < sum ys
 unfolding sum
 sum-less [] ys size low k inside smaller = absurd (omega arith)
 sum-less (x ∷ xs) [] size low k inside smaller = absurd (not-suc-le-zero inside)

@@ -34,7 +34,7 @@ pub held-is : {es : List Edge} {a b x y : ℕ} → x ≡ y → Held es a b y →
 held-is {es} {a} {b} same held = subst (λ (z : ℕ). Held es a b z) (sym same) held
 
 -- the smaller of two delays that paths have
-pub held-lesser : {es : List Edge} {a b x y : ℕ} → Held es a b x → (y < 32767 → Path es a b y) → Held es a b (min x y)
+pub held-lesser : {es : List Edge} {a b x y : ℕ} → Held es a b x → (y < 16383 → Path es a b y) → Held es a b (min x y)
 held-lesser {es} {a} {b} {x} {y} held path = go (order x y)
   where
     go : (x ≤ y) ⊎ (y < x) → Held es a b (min x y)
@@ -85,7 +85,7 @@ module _ (source sink delay : List ℕ) {a : ℕ} {table : List ℕ} (inner : a 
           ends : (getD source i 0 < 64) × (getD sink i 0 < 64) × (getD delay i 0 ≤ 255)
           ends = fit-at source sink delay i fit inside
 
-          way : (b : ℕ) → b < 64 → getD delay i 0 + rowAt table (getD sink i 0) b < 32767 → Path (edgesOf source sink delay) a b (getD delay i 0 + rowAt table (getD sink i 0) b)
+          way : (b : ℕ) → b < 64 → getD delay i 0 + rowAt table (getD sink i 0) b < 16383 → Path (edgesOf source sink delay) a b (getD delay i 0 + rowAt table (getD sink i 0) b)
           way b l few =
               path-append (path-ends own refl (path-edge (edge-in source sink delay i inside))) (sound .held (getD sink i 0) b (ends .1) l .path (omega arith))
 

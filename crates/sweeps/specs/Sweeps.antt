@@ -19,10 +19,10 @@ unfoldable pub sum : List ℕ → ℕ
 sum [] = 0
 sum (x ∷ xs) = x + sum xs
 
--- a delay that a path from a to b has; 32,767 stands for none
+-- a delay that a path from a to b has; 16,383 stands for none
 pub record Held (es : List Edge) (a b x : ℕ) : Type 0 where
-  pub small : x ≤ 32767
-  pub path : x < 32767 → Path es a b x
+  pub small : x ≤ 16383
+  pub path : x < 16383 → Path es a b x
 
 -- no path from a to b has less
 pub record Lowest (es : List Edge) (a b x : ℕ) : Type 0 where

@@ -1,4 +1,4 @@
--- The table holds what the model's recursion over inner tasks computes, cut at 32,767: the delays of single edges, then one round for each inner task. Cutting
+-- The table holds what the model's recursion over inner tasks computes, cut at 16,383: the delays of single edges, then one round for each inner task. Cutting
 -- respects the smaller of two delays and the sum of two, and it leaves least delays as they are, which are at most 255 times 64.
 use mathlib.Core.Path.{_≡_, refl, sym, ap, ap₂, _∙_, subst}
 use mathlib.Core.Logic.{_⊎_, inl, inr}
@@ -27,7 +27,7 @@ use Rattle.tables.specs.Tables.{capped, Square, entryAt, cappedThrough, 
 
 -- ── Cutting ──
 
-pub capped-small : (x : Option ℕ) → capped x ≤ 32767
+pub capped-small : (x : Option ℕ) → capped x ≤ 16383
 unfolding capped
 capped-small (some d) = omega arith
 capped-small none = omega arith
@@ -94,8 +94,8 @@ square-rebased n size past held = record { size = held .size ∙ size; inside = 
 
 module _ (es : List Edge) (k : ℕ) {n : ℕ} {first table : List ℕ} where
   -- a square of delays of paths whose inner tasks are below k has small entries
-  pub square-small : Square n (cappedThrough es k) first table → (a b : ℕ) → a < n → b < n → entryAt n table a b ≤ 32767
-  square-small held a b l m = subst (λ (x : ℕ). x ≤ 32767) (sym (held .inside a b l m)) (capped-small (through es k a b))
+  pub square-small : Square n (cappedThrough es k) first table → (a b : ℕ) → a < n → b < n → entryAt n table a b ≤ 16383
+  square-small held a b l m = subst (λ (x : ℕ). x ≤ 16383) (sym (held .inside a b l m)) (capped-small (through es k a b))
 
   -- a round makes it one of paths whose inner tasks are below k + 1
   pub square-more :
@@ -145,7 +145,7 @@ firstEdges source sink delay j a b = capped (shortest (keep (joins a b) (tabulat
 
 module _ (source sink delay : List ℕ) (n : ℕ) where
   pub edges-none :
-      {first : List ℕ} → ((a b : ℕ) → a < n → b < n → entryAt n first a b ≡ 32767) → Square n (firstEdges source sink delay 0) first first
+      {first : List ℕ} → ((a b : ℕ) → a < n → b < n → entryAt n first a b ≡ 16383) → Square n (firstEdges source sink delay 0) first first
   unfolding tabulate keep shortest capped
   edges-none blank = record { size = refl; inside = blank; past = λ i l. refl }
 
@@ -252,7 +252,7 @@ module _ {n k a : ℕ} {before now : List ℕ} (part : RoundPart n k a before no
 
   -- where no path leads to task k, the round leaves the row as it is
   pub round-still :
-      32767 ≡ getD now (at + k) 0 → ((b : ℕ) → b < n → entryAt n before a b ≤ 32767) → RoundPart n k (a + 1) before now
+      16383 ≡ getD now (at + k) 0 → ((b : ℕ) → b < n → entryAt n before a b ≤ 16383) → RoundPart n k (a + 1) before now
   round-still far small = record {
     size = part .size;
     done = λ x b l m. let below : x < suc a = omega arith in go x b m (below-suc below);
@@ -265,7 +265,7 @@ module _ {n k a : ℕ} {before now : List ℕ} (part : RoundPart n k a before no
       go : (x b : ℕ) → b < n → (x < a) ⊎ (x ≡ a) → entryAt n now x b ≡ stepped k (entryAt n before) x b
       go x b m (inl earlier) = part .done x b earlier m
       go x b m (inr same) =
-          let way : entryAt n before a k ≡ 32767 = sym (round-entry k) ∙ sym far in
+          let way : entryAt n before a k ≡ 16383 = sym (round-entry k) ∙ sym far in
           let low = small b m in
           let kept : getD now (at + b) 0 ≡ stepped k (entryAt n before) a b = round-entry b ∙ omega arith in
           ap (λ (y : ℕ). getD now (y + b) 0) (ap (λ (y : ℕ). y * n) same ∙ sym is) ∙
@@ -282,8 +282,8 @@ widened-capped : {n : ℕ} {es : List Edge} {a b : ℕ} → n ≤ 64 → Fit n e
 unfolding capped entry widened chosen
 widened-capped {n} {es} {a} {b} few fit (some d) least =
     let bound : d ≤ 255 * n = least-bound n 255 es (fit .ends) (fit .delays) a b d least in
-    let whole : min d 32767 ≡ d = omega arith in
-    ap (λ (x : ℕ). chosen (eqb x 32767) 65535 x) whole ∙ ap (λ (x : Bool). chosen x 65535 d) (decides-no (eqb-decides d 32767) (λ q. omega arith))
+    let whole : min d 16383 ≡ d = omega arith in
+    ap (λ (x : ℕ). chosen (eqb x 16383) 65535 x) whole ∙ ap (λ (x : Bool). chosen x 65535 d) (decides-no (eqb-decides d 16383) (λ q. omega arith))
 widened-capped few fit none least = refl
 
 -- widened, the square of all paths is the table of least delays

@@ -1,15 +1,17 @@
--- A table in rows of 64 whose entries are the lowest is the table of all paths, cut at 32,767: at first its entries are the delays of single edges, which are
--- paths; at last its first entries are copied, row by row.
+-- A table in rows of 64 whose entries are the lowest is the table of all paths, cut at 16,383: at first its entries are the delays of single edges, which are
+-- paths; at last its first entries are copied, row by row, or it is itself the front of a table of 64 tasks.
 use mathlib.Core.Path.{_≡_, refl, sym, ap, _∙_}
 use mathlib.Core.Logic.{_⊎_, inl, inr}
 use mathlib.Core.List.{List, [], _∷_, List·Memᴰ·head as here, List·Memᴰ·tail as there}
 use mathlib.Core.Option.{Option, none, some}
-use Prim.Native.Nat.{ℕ, suc, _+_, _*_, _≤_, _<_}
+use Prim.Native.Nat.{ℕ, suc, _+_, _-_, _*_, _≤_, _<_}
 use native.Mathlib.Nat.{not-suc-le-zero, suc-mul}
 use native.Mathlib.Numerals.{add-one}
 use native.Mathlib.Omega.{arith}
 use lib.Dec.{eqb, eqb→eq}
-use lib.ListN.{length, getD}
+use lib.ListN.{length, getD, List·getD-append}
+use lib.Seq.{getD-take, getD-drop}
+use borrow.Rule.Slice.PartMut.{midOf, postOf, putMid, mid-len, same-len-mid, drop-put}
 use Rattle.model.specs.Lists.{keep}
 use Rattle.model.specs.Tasks.{Edge, _∈_}
 use Rattle.model.specs.Paths.{Path, Least, smallest, no-path}
@@ -76,12 +78,12 @@ unfolding capped
 capped-lowest {n} {es} {a} {b} {x} few fit (some d) (smallest r below) lowest =
     let bound : d ≤ 255 * n = least-bound n 255 es (fit .ends) (fit .delays) a b d (smallest r below) in
     let low = lowest .least d r in
-    let short : x < 32767 = omega arith in
+    let short : x < 16383 = omega arith in
     let high = below x (lowest .held .path short) in
     omega arith
-capped-lowest {x = x} few fit none (no-path h) lowest = go (order 32767 x) (lowest .held .small)
+capped-lowest {x = x} few fit none (no-path h) lowest = go (order 16383 x) (lowest .held .small)
   where
-    go : (32767 ≤ x) ⊎ (x < 32767) → x ≤ 32767 → x ≡ 32767
+    go : (16383 ≤ x) ⊎ (x < 16383) → x ≤ 16383 → x ≡ 16383
     go (inl l) small = omega arith
     go (inr l) small = absurd (h x (lowest .held .path l))
 
@@ -131,3 +133,34 @@ pub taken-all : {n a : ℕ} {work before after : List ℕ} → RowsTaken n a wor
 taken-all {n} {a} rows whole =
     let all : a * n ≡ n * n = ap (λ (x : ℕ). x * n) whole in
     record { size = rows .size; inside = λ x b l m. rows .done x b (omega arith) m; past = λ i l. rows .rest i (omega arith) }
+
+-- ── Rows at the front of a table ──
+
+-- of 64 tasks all rows have room
+pub front-room : {n size : ℕ} → n ≡ 64 → n * n ≤ size → 4096 ≤ size
+front-room {n} same room = let square : n * n ≡ 64 * 64 = ap (λ (x : ℕ). x * x) same in omega arith
+
+-- a cleared front has no path
+pub front-far : (far : List ℕ) → ((i : ℕ) → i < 4096 → getD far i 0 ≡ 16383) → (i : ℕ) → i < 4096 → getD (midOf 0 (4096 - 0) far) i 0 ≡ 16383
+front-far far clear i l = getD-take 4096 far i 0 l ∙ clear i l
+
+-- rows of 64 in the place of the front of a table of 64 tasks
+pub front-square :
+    {n : ℕ} {first : List ℕ} (far rows : List ℕ) → n ≡ 64 → 4096 ≤ length far → length far ≡ length first
+    → ((i : ℕ) → 4096 ≤ i → getD far i 0 ≡ getD first i 0) → length rows ≡ 4096 → Square n (rowAt rows) first (putMid 0 (4096 - 0) far rows)
+front-square {n} far rows same room size past long =
+    let part = mid-len 0 4096 far room in
+    let table : List ℕ = putMid 0 (4096 - 0) far rows in
+    record {
+      size = same-len-mid 0 (4096 - 0) far rows (long ∙ sym part) ∙ size;
+      inside = λ a b l m.
+          let within : a * 64 + b < length rows = omega arith in
+          ap (λ (x : ℕ). getD table (a * x + b) 0) same ∙ List·getD-append rows (postOf 0 (4096 - 0) far) 0 (a * 64 + b) within;
+      past = λ i l.
+          let square : n * n ≡ 64 * 64 = ap (λ (x : ℕ). x * x) same in
+          let place : 4096 + (i - 4096) ≡ i = omega arith in
+          ap (λ (k : ℕ). getD table k 0) (sym place) ∙
+          (sym (getD-drop 4096 table (i - 4096) 0) ∙
+          (ap (λ (xs : List ℕ). getD xs (i - 4096) 0) (drop-put 0 4096 far rows (omega arith) room long) ∙
+          (getD-drop 4096 far (i - 4096) 0 ∙ (ap (λ (k : ℕ). getD far k 0) place ∙ past i (omega arith)))));
+    }

@@ -10,10 +10,10 @@ use lib.ListN.{length, getD}
 use Rattle.model.specs.Tasks.{Edge}
 use Rattle.model.specs.Compute.{through}
 
--- a delay in 16 bits, so small that the sum of two fits them: 32,767 where there is none, or one that is not below that
+-- a delay in 16 bits, so small that the sum of two is below 32,768: 16,383 where there is none, or one that is not below that
 unfoldable pub capped : Option ℕ → ℕ
-capped (some d) = min d 32767
-capped none = 32767
+capped (some d) = min d 16383
+capped none = 16383
 
 -- entry b of row a of a table whose rows have n entries
 abbrev pub entryAt : ℕ → List ℕ → ℕ → ℕ → ℕ
@@ -56,7 +56,7 @@ chosen false x y = y
 
 unfoldable pub widened : ℕ → ℕ
 unfolding chosen
-widened x = chosen (eqb x 32767) 65535 x
+widened x = chosen (eqb x 16383) 65535 x
 
 -- the first entries of a table, so many, are those of the finished table; the others are as before
 pub record Widened (count : ℕ) (before after : List ℕ) : Type 0 where

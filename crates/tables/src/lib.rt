@@ -6,10 +6,11 @@ ghost use Prim.Native.Nat.{ℕ, _+_, _*_, _≤_, _<_};
 ghost use lib.ListN.{length, getD, drop};
 ghost use Rattle.records.specs.Columns.{edgesOf};
 ghost use Rattle.delays.specs.Delays.{delayTable, Fit};
-ghost use Rattle.sweeps.specs.Sweeps.{rowAt};
+ghost use Rattle.sweeps.specs.Sweeps.{rowAt, Lowest};
 ghost use Rattle.tables.specs.Tables.{Square, RowLowered, RowTaken, Widened, entryAt, cappedThrough, oneEdge, stepped, widened};
 use sweeps::copy_row;
 use sweeps::lesser;
+use sweeps::nearer;
 use sweeps::settle;
 
 // One row of least delays.
@@ -17,8 +18,8 @@ struct Row {
     delay: [u16; 64],
 }
 
-// No path yet: above every least delay, and so small that the sum of two entries fits 16 bits.
-const FAR: u16 = 32767;
+// No path yet: above every least delay, and so small that the sum of two entries is below 32,768.
+const FAR: u16 = 16383;
 
 // So many tasks that rounds over inner tasks take no longer than sweeps.
 const FEW: usize = 32;
@@ -50,7 +51,7 @@ fn finished(entry: u16) -> u16
 fn set_far(count: usize, table: &mut [u16])
     requires { ⌜ count ≤ length (now table) ⌝ }
     ensures size { λ _. ⌜ length (now (table .exit)) ≡ length (now (table .entry)) ⌝ }
-    ensures inside { λ _. ⌜ ((i : ℕ) → i < count → getD (now (table .exit)) i 0 ≡ 32767) ⌝ }
+    ensures inside { λ _. ⌜ ((i : ℕ) → i < count → getD (now (table .exit)) i 0 ≡ 16383) ⌝ }
     ensures past { λ _. ⌜ ((i : ℕ) → count ≤ i → getD (now (table .exit)) i 0 ≡ getD (now (table .entry)) i 0) ⌝ }
 {
     let mut i = 0;
@@ -83,7 +84,7 @@ fn take_edges<'a>(
     requires { ⌜ (length (now sink) ≡ length (now source)) × (length (now delay) ≡ length (now source)) ⌝ }
     requires { ⌜ (tasks ≤ 64) × (tasks * tasks ≤ length (now table)) ⌝ }
     requires { ⌜ Fit tasks (edgesOf (now source) (now sink) (now delay)) ⌝ }
-    requires { ⌜ ((a b : ℕ) → a < tasks → b < tasks → entryAt tasks (now table) a b ≡ 32767) ⌝ }
+    requires { ⌜ ((a b : ℕ) → a < tasks → b < tasks → entryAt tasks (now table) a b ≡ 16383) ⌝ }
     ensures { λ _. ⌜ Square tasks (oneEdge (edgesOf (now (source .entry)) (now (sink .entry)) (now (delay .entry)))) (now (table .entry)) (now (table .exit)) ⌝ }
 {
     let mut j = 0;
@@ -96,13 +97,13 @@ fn take_edges<'a>(
 
 // Lowers a row of a table to what the way to another task, and that task's row after it, allow.
 fn lower_row(way: u16, onward: &[u16], count: usize, at: usize, table: &mut [u16])
-    requires { ⌜ (way < 32767) × (count ≤ length (now onward)) × (at + count ≤ length (now table)) ⌝ }
-    requires { ⌜ ((b : ℕ) → b < count → getD (now onward) b 0 ≤ 32767) ⌝ }
+    requires { ⌜ (way < 16383) × (count ≤ length (now onward)) × (at + count ≤ length (now table)) ⌝ }
+    requires { ⌜ ((b : ℕ) → b < count → (getD (now onward) b 0 ≤ 16383) × (getD (now table) (at + b) 0 ≤ 16383)) ⌝ }
     ensures { λ _. ⌜ RowLowered way (now (onward .entry)) count at (now (table .entry)) (now (table .exit)) ⌝ }
 {
     let mut b = 0;
     while b < count {
-        table[at + b] = lesser(table[at + b], way + onward[b]);
+        table[at + b] = nearer(table[at + b], way + onward[b]);
         b += 1;
     }
 }
@@ -110,7 +111,7 @@ fn lower_row(way: u16, onward: &[u16], count: usize, at: usize, table: &mut [u16
 // One round: each entry is lowered to the sum of two that meet in task k.
 fn join_through(k: usize, tasks: usize, table: &mut [u16])
     requires { ⌜ (k < tasks) × (tasks ≤ 64) × (tasks * tasks ≤ length (now table)) ⌝ }
-    requires { ⌜ ((a b : ℕ) → a < tasks → b < tasks → entryAt tasks (now table) a b ≤ 32767) ⌝ }
+    requires { ⌜ ((a b : ℕ) → a < tasks → b < tasks → entryAt tasks (now table) a b ≤ 16383) ⌝ }
     ensures { λ _. ⌜ Square tasks (stepped k (entryAt tasks (now (table .entry)))) (now (table .entry)) (now (table .exit)) ⌝ }
 {
     let blank = blank_row();
@@ -176,29 +177,63 @@ fn take_rows(work: &[u16], tasks: usize, table: &mut [u16])
     }
 }
 
-// The least delays, by lowering rows along edges.
-fn by_sweeps<'a>(source: &'a [u8], sink: &'a [u8], delay: &'a [u8], tasks: usize, table: &mut [u16])
+// Lowers rows of 64 entries, none of which is a path yet, along edges to the least delays.
+fn sweep_rows<'a>(
+    source: &'a [u8],
+    sink: &'a [u8],
+    delay: &'a [u8],
+    tasks: usize,
+    sequence: &'a [u8],
+    rows: &mut [u16],
+)
     requires { ⌜ (length (now sink) ≡ length (now source)) × (length (now delay) ≡ length (now source)) × (length (now source) ≤ 576) ⌝ }
-    requires { ⌜ (tasks ≤ 64) × (tasks * tasks ≤ length (now table)) ⌝ }
+    requires { ⌜ (tasks ≤ 64) × (length (now sequence) ≤ 64) × (length (now rows) ≡ 4096) ⌝ }
+    requires { ⌜ Fit tasks (edgesOf (now source) (now sink) (now delay)) ⌝ }
+    requires { ⌜ ((i : ℕ) → i < 4096 → getD (now rows) i 0 ≡ 16383) ⌝ }
+    ensures size { λ _. ⌜ length (now (rows .exit)) ≡ 4096 ⌝ }
+    ensures lowest { λ _. ⌜ ((a b : ℕ) → a < 64 → b < 64 → Lowest (edgesOf (now (source .entry)) (now (sink .entry)) (now (delay .entry))) a b (rowAt (now (rows .exit)) a b)) ⌝ }
+{
+    take_edges(source, sink, delay, WIDTH, rows);
+    settle(source, sink, delay, tasks, sequence, rows);
+}
+
+// The least delays, by lowering rows along edges.
+fn by_sweeps<'a>(
+    source: &'a [u8],
+    sink: &'a [u8],
+    delay: &'a [u8],
+    tasks: usize,
+    sequence: &'a [u8],
+    table: &mut [u16],
+)
+    requires { ⌜ (length (now sink) ≡ length (now source)) × (length (now delay) ≡ length (now source)) × (length (now source) ≤ 576) ⌝ }
+    requires { ⌜ (tasks ≤ 64) × (tasks * tasks ≤ length (now table)) × (length (now sequence) ≤ 64) ⌝ }
     requires { ⌜ Fit tasks (edgesOf (now source) (now sink) (now delay)) ⌝ }
     ensures { λ _. ⌜ Square tasks (cappedThrough (edgesOf (now (source .entry)) (now (sink .entry)) (now (delay .entry))) tasks) (now (table .entry)) (now (table .exit)) ⌝ }
 {
+    // With 64 tasks the front of the table has the shape of the rows that are swept.
+    if tasks == WIDTH {
+        let whole = WIDTH * WIDTH;
+        set_far(whole, table);
+        sweep_rows(source, sink, delay, tasks, sequence, &mut table[0..whole]);
+        return;
+    }
     let mut work: [u16; 4096] = [FAR; 4096];
-    take_edges(source, sink, delay, WIDTH, &mut work);
-    settle(source, sink, delay, tasks, &mut work);
+    sweep_rows(source, sink, delay, tasks, sequence, &mut work);
     take_rows(&work, tasks, table);
 }
 
-// The least delays, 32,767 where there is no path.
+// The least delays, 16,383 where there is no path.
 fn capped_table<'a>(
     source: &'a [u8],
     sink: &'a [u8],
     delay: &'a [u8],
     tasks: usize,
+    sequence: &'a [u8],
     table: &mut [u16],
 )
     requires { ⌜ (length (now sink) ≡ length (now source)) × (length (now delay) ≡ length (now source)) ⌝ }
-    requires { ⌜ (tasks ≤ 64) × (tasks * tasks ≤ length (now table)) ⌝ }
+    requires { ⌜ (tasks ≤ 64) × (tasks * tasks ≤ length (now table)) × (length (now sequence) ≤ 64) ⌝ }
     requires { ⌜ Fit tasks (edgesOf (now source) (now sink) (now delay)) ⌝ }
     ensures { λ _. ⌜ Square tasks (cappedThrough (edgesOf (now (source .entry)) (now (sink .entry)) (now (delay .entry))) tasks) (now (table .entry)) (now (table .exit)) ⌝ }
 {
@@ -210,22 +245,24 @@ fn capped_table<'a>(
         by_inner_tasks(source, sink, delay, tasks, table);
         return;
     }
-    by_sweeps(source, sink, delay, tasks, table);
+    by_sweeps(source, sink, delay, tasks, sequence, table);
 }
 
-// The least delays from each task to each, row by row at the front of a list; elements past them keep what they held.
+// The least delays from each task to each, row by row at the front of a list; elements past them keep what they held. Rows are lowered
+// against a sequence of tasks: any will do, one in which tasks stand after those they wait for in the first turn is quickest.
 pub fn least_table<'a>(
     source: &'a [u8],
     sink: &'a [u8],
     delay: &'a [u8],
     tasks: usize,
+    sequence: &'a [u8],
     table: &mut [u16],
 )
     requires { ⌜ (length (now sink) ≡ length (now source)) × (length (now delay) ≡ length (now source)) ⌝ }
-    requires { ⌜ (tasks ≤ 64) × (tasks * tasks ≤ length (now table)) ⌝ }
+    requires { ⌜ (tasks ≤ 64) × (tasks * tasks ≤ length (now table)) × (length (now sequence) ≤ 64) ⌝ }
     requires { ⌜ Fit tasks (edgesOf (now source) (now sink) (now delay)) ⌝ }
     ensures { λ _. ⌜ now (table .exit) ≡ delayTable tasks (edgesOf (now (source .entry)) (now (sink .entry)) (now (delay .entry))) ++ drop (tasks * tasks) (now (table .entry)) ⌝ }
 {
-    capped_table(source, sink, delay, tasks, table);
+    capped_table(source, sink, delay, tasks, sequence, table);
     widen(tasks * tasks, table);
 }

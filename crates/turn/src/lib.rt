@@ -171,15 +171,17 @@ fn first_tasks(tasks: usize) -> u64
 }
 
 // Takes the tasks one by one, each once it waits for none that is left. It stops where none is such, or where an edge leads to a task that is taken.
+// A list takes the tasks in the sequence in which they were taken; nothing is promised of what it holds.
 fn walk_tasks<'a>(
     sinks: &'a [u64],
     sources: &'a [u64],
     time: &'a [u16],
     input: usize,
     row: &mut [u32],
+    sequence: &mut [u8],
 ) -> Walk
     requires { ⌜ (length (now sinks) ≡ 64) × (length (now sources) ≡ 64) × (length (now time) ≡ length (now row)) ⌝ }
-    requires { ⌜ (input < length (now row)) × (length (now row) ≤ 64) ⌝ }
+    requires { ⌜ (input < length (now row)) × (length (now row) ≤ 64) × (length (now sequence) ≡ 64) ⌝ }
     requires { ⌜ ((s t : ℕ) → s < length (now row) → bitAt (now sinks) s t ≡ true → t < length (now row)) ⌝ }
     requires { ⌜ ((v : ℕ) → v < length (now row) → at (now row) v ≡ 0) ⌝ }
     ensures size { λ _. ⌜ length (now (row .exit)) ≡ length (now (row .entry)) ⌝ }
@@ -217,6 +219,7 @@ fn walk_tasks<'a>(
                 reached,
             };
         }
+        sequence[taken] = v as u8;
         reached = reached_on(reached, word, v);
         let end = row[v] + time[v] as u32;
         ready = ready | raise(word, end, !done, sources, row);
@@ -230,7 +233,8 @@ fn walk_tasks<'a>(
     }
 }
 
-// The first turn's earliest starts, over starts of 0. Nothing is promised of them unless it is found.
+// The first turn's earliest starts, over starts of 0. Nothing is promised of them unless it is found. A list takes the tasks in the sequence in which
+// they were taken; nothing is promised of what it holds.
 pub fn first_turn<'a>(
     source: &'a [u8],
     sink: &'a [u8],
@@ -238,9 +242,10 @@ pub fn first_turn<'a>(
     time: &'a [u16],
     input: usize,
     row: &mut [u32],
+    sequence: &mut [u8],
 ) -> FirstTurn
     requires { ⌜ (length (now sink) ≡ length (now source)) × (length (now delay) ≡ length (now source)) ⌝ }
-    requires { ⌜ (length (now time) ≡ length (now row)) × (length (now row) ≤ 64) × (input < length (now row)) ⌝ }
+    requires { ⌜ (length (now time) ≡ length (now row)) × (length (now row) ≤ 64) × (input < length (now row)) × (length (now sequence) ≡ 64) ⌝ }
     requires { ⌜ Ends (length (now row)) (edgesOf (now source) (now sink) (now delay)) ⌝ }
     requires { ⌜ ((v : ℕ) → v < length (now row) → at (now row) v ≡ 0) ⌝ }
     ensures size { λ _. ⌜ length (now (row .exit)) ≡ length (now (row .entry)) ⌝ }
@@ -251,7 +256,7 @@ pub fn first_turn<'a>(
     let mut sinks = blank.sinks;
     let mut sources = blank.sources;
     take_edges(source, sink, delay, &mut sinks, &mut sources);
-    let walk = walk_tasks(&sinks, &sources, time, input, row);
+    let walk = walk_tasks(&sinks, &sources, time, input, row, sequence);
     FirstTurn {
         found: walk.found,
         free: sources[input] == 0,

@@ -25,6 +25,10 @@ fall-counted old v counts least {lower} low fell is = go (order old v)
     go (inl h) = inl (omega arith)
     go (inr h) = inr (omega (arith, fell h))
 
+-- what is counted of it is below 32,768, as a signed test asks
+pub fall-small : {old v counts : ℕ} → old ≤ 32767 → (old ≤ v → counts ≡ 32767) → (v < old → counts ≡ v) → counts ≤ 32767
+fall-small {old} {v} {counts} small same fell = ⊎-elim (λ h. omega (arith, same h)) (λ h. omega (arith, fell h)) (order old v)
+
 module _ (way : ℕ) (onward : List ℕ) (start : ℕ) where
   pub row-none : (before : List ℕ) (least : ℕ) → RowFell way onward start 0 before before least
   row-none before least = record {
@@ -63,7 +67,7 @@ module _ (way : ℕ) (onward : List ℕ) (start : ℕ) where
           ⊎-elim (λ q. inl (omega arith)) (λ q. inr (omega arith)) (done .fell y h)
 
   -- a way as long as no path lowers nothing
-  pub row-still : (rows : List ℕ) (least : ℕ) → way ≡ 32767 → Small rows → RowFell way onward start 64 rows rows least
+  pub row-still : (rows : List ℕ) (least : ℕ) → way ≡ 16383 → Small rows → RowFell way onward start 64 rows rows least
   row-still rows least far small = record {
     size = refl;
     inside = λ y l. omega (arith, small (start + y));
@@ -114,7 +118,7 @@ module _ (ways onward : List ℕ) where
       first : (y : ℕ) → at rows (x * 64 + y) ≡ at before (x * 64 + y)
       first y = done .rest (x * 64 + y) (omega arith)
 
-      low : (i : ℕ) → (x * 64 ≤ i) ⊎ (i < x * 64) → (x * 64 + 64 ≤ i) ⊎ (i < x * 64 + 64) → at after i ≤ 32767
+      low : (i : ℕ) → (x * 64 ≤ i) ⊎ (i < x * 64) → (x * 64 + 64 ≤ i) ⊎ (i < x * 64 + 64) → at after i ≤ 16383
       low i (inr h) past = omega (arith, next .outside i (inl h), done .joined .small i)
       low i (inl h) (inl past) = omega (arith, next .outside i (inr past), done .joined .small i)
       low i (inl h) (inr within) =

@@ -15,7 +15,7 @@ use Rattle.updates.specs.Updates.{Small, LineSpread, Spread}
 pub record LinesSpread (table : List ℕ) (outer inner tasks many : ℕ) (lines : List ℕ) : Type 0 where
   pub size : tasks * 64 ≤ length lines
   pub small : Small lines
-  pub inside : (a b : ℕ) → a < many → b < tasks → at lines (a * 64 + b) ≡ min (at table (a * outer + b * inner)) 32767
+  pub inside : (a b : ℕ) → a < many → b < tasks → at lines (a * 64 + b) ≡ min (at table (a * outer + b * inner)) 16383
 
 pub lines-none :
     (table : List ℕ) (outer inner tasks : ℕ) {lines : List ℕ} → tasks * 64 ≤ length lines → Small lines → LinesSpread table outer inner tasks 0 lines
@@ -30,19 +30,19 @@ lines-more {table} {outer} {inner} {tasks} {a} {first} {lines} {after} done few 
   inside = λ c b l k. go c b l k (order a c);
 }
   where
-    low : (i : ℕ) → (a * 64 ≤ i) ⊎ (i < a * 64) → (a * 64 + tasks ≤ i) ⊎ (i < a * 64 + tasks) → at after i ≤ 32767
+    low : (i : ℕ) → (a * 64 ≤ i) ⊎ (i < a * 64) → (a * 64 + tasks ≤ i) ⊎ (i < a * 64 + tasks) → at after i ≤ 16383
     low i (inr h) past = omega (arith, next .outside i (inl h), done .small i)
     low i (inl h) (inl past) = omega (arith, next .outside i (inr past), done .small i)
     low i (inl h) (inr within) =
         let b = i - a * 64 in
         let place : a * 64 + b ≡ i = omega arith in
-        subst (λ (j : ℕ). at after j ≤ 32767) place (omega (arith, next .inside b (omega arith)))
+        subst (λ (j : ℕ). at after j ≤ 16383) place (omega (arith, next .inside b (omega arith)))
 
-    go : (c b : ℕ) → c < a + 1 → b < tasks → (a ≤ c) ⊎ (c < a) → at after (c * 64 + b) ≡ min (at table (c * outer + b * inner)) 32767
+    go : (c b : ℕ) → c < a + 1 → b < tasks → (a ≤ c) ⊎ (c < a) → at after (c * 64 + b) ≡ min (at table (c * outer + b * inner)) 16383
     go c b l k (inl h) =
         let same : c ≡ a = omega arith in
         let line : first ≡ c * outer = starts ∙ ap (λ (x : ℕ). x * outer) (sym same) in
-        ap (λ (x : ℕ). at after (x * 64 + b)) same ∙ (next .inside b k ∙ ap (λ (x : ℕ). min (at table (x + b * inner)) 32767) line)
+        ap (λ (x : ℕ). at after (x * 64 + b)) same ∙ (next .inside b k ∙ ap (λ (x : ℕ). min (at table (x + b * inner)) 16383) line)
     go c b l k (inr h) = next .outside (c * 64 + b) (inl (place-within 64 a c b h (omega arith))) ∙ done .inside c b h k
 
 pub lines-all :

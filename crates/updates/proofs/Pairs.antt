@@ -15,7 +15,7 @@ use Rattle.model.specs.Tasks.{Edge, _∈_, Ends}
 use Rattle.model.specs.Plan.{withPair}
 use Rattle.model.proofs.Basics.{order}
 use Rattle.records.specs.Columns.{at}
-use Rattle.counts.specs.Counts.{subsumesBy, RowsFell, CountsOf}
+use Rattle.counts.specs.Counts.{subsumesBy, SmallRows, RowsFell, CountsOf}
 use Rattle.updates.specs.Updates.{Small, Fronts, RowsJoined, PairAdded}
 
 -- the row of a task, as it is lent
@@ -49,9 +49,13 @@ kept-row a {tasks} {xs} {old} below same size small = (row-size a old room, λ i
     room : a * 64 + 64 ≤ length old
     room = omega arith
 
-    go : (i : ℕ) → (64 ≤ i) ⊎ (i < 64) → at (rowOf a old) i ≤ 32767
+    go : (i : ℕ) → (64 ≤ i) ⊎ (i < 64) → at (rowOf a old) i ≤ 16383
     go i (inl h) = omega (arith, past a old room i h)
     go i (inr h) = omega (arith, row-at a old room i h, same .same (a * 64 + i) (omega arith), small (a * 64 + i))
+
+-- the rows of a copy are small
+pub rows-kept : (tasks : ℕ) {xs old : List ℕ} → Fronts (tasks * 64) xs old → Small xs → SmallRows tasks old
+rows-kept tasks same small i l = omega (arith, same .same i l, small i)
 
 pub fell-kept : {tasks : ℕ} {xs old after fell : List ℕ} → Fronts (tasks * 64) xs old → RowsFell tasks xs after fell → RowsFell tasks old after fell
 fell-kept same falls = record {

@@ -7,25 +7,25 @@ use lib.ListN.{length}
 use Rattle.records.specs.Columns.{at}
 use Rattle.counts.specs.Counts.{RowsFell}
 
--- every number is at most 32,767
+-- every number is at most 16,383
 abbrev pub Small : List ℕ → Type 0
-Small xs = (i : ℕ) → at xs i ≤ 32767
+Small xs = (i : ℕ) → at xs i ≤ 16383
 
 -- two lists agree in so many places from the front
 pub record Fronts (count : ℕ) (xs ys : List ℕ) : Type 0 where
   pub same : (i : ℕ) → i < count → at ys i ≡ at xs i
 
--- the first `many` numbers from a start on are entries of a table that stand a step apart, cut at 32,767; the other numbers are as before
+-- the first `many` numbers from a start on are entries of a table that stand a step apart, cut at 16,383; the other numbers are as before
 pub record LineSpread (table : List ℕ) (first step start many : ℕ) (before after : List ℕ) : Type 0 where
   pub size : length after ≡ length before
-  pub inside : (b : ℕ) → b < many → at after (start + b) ≡ min (at table (first + b * step)) 32767
+  pub inside : (b : ℕ) → b < many → at after (start + b) ≡ min (at table (first + b * step)) 16383
   pub outside : (i : ℕ) → (i < start) ⊎ (start + many ≤ i) → at after i ≡ at before i
 
--- row a has the entries of line a of a table, cut at 32,767, in its first places
+-- row a has the entries of line a of a table, cut at 16,383, in its first places
 pub record Spread (table : List ℕ) (outer inner tasks : ℕ) (lines : List ℕ) : Type 0 where
   pub size : tasks * 64 ≤ length lines
   pub small : Small lines
-  pub inside : (a b : ℕ) → a < tasks → b < tasks → at lines (a * 64 + b) ≡ min (at table (a * outer + b * inner)) 32767
+  pub inside : (a b : ℕ) → a < tasks → b < tasks → at lines (a * 64 + b) ≡ min (at table (a * outer + b * inner)) 16383
 
 -- The first `many` numbers of a row are lowered to a way and another row after it, the others are as before; each that fell is at least `least`.
 pub record RowFell (way : ℕ) (onward : List ℕ) (start many : ℕ) (before after : List ℕ) (least : ℕ) : Type 0 where

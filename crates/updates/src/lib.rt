@@ -1,4 +1,4 @@
-// Least delays in rows of 64 numbers, 32,767 where there is no path, and how they fall when a pair of tasks is joined by an edge of delay 0.
+// Least delays in rows of 64 numbers, 16,383 where there is no path, and how they fall when a pair of tasks is joined by an edge of delay 0.
 ghost use mathlib.Core.Path.{_≡_};
 ghost use mathlib.Core.Bool.{not};
 ghost use Prim.Native.Nat.{ℕ, _+_, _*_, _≤_, _<_, min};
@@ -10,38 +10,31 @@ ghost use Rattle.records.specs.Columns.{at, edgesOf};
 ghost use Rattle.counts.specs.Counts.{subsumesBy, CountsOf};
 ghost use Rattle.updates.specs.Updates.{Spread, LineSpread, RowFell, RowsJoined, PairAdded, Small, Fronts};
 use counts::shift_edges;
+use sweeps::lesser;
+use sweeps::nearer;
 
-// No path: above every delay of a path that matters, and so small that the sum of two entries fits 16 bits.
-const FAR: u16 = 32767;
+// No path: above every delay of a path that matters, and so small that the sum of two entries fits a signed test.
+const FAR: u16 = 16383;
 
-// No entry fell.
-const NONE: u16 = 65535;
+// No entry fell: above every entry, and the largest number that fits a signed test.
+const NONE: u16 = 32767;
 
 // Places of a row, for as many tasks as there can be.
 const WIDTH: usize = 64;
 
-// The smaller of two numbers.
-fn lesser(a: u16, b: u16) -> u16
-    ensures { λ r. ⌜ r ≡ min a b ⌝ }
-{
-    if b < a {
-        return b;
-    }
-    a
-}
-
 // A number if it fell below what it was, else one above all delays.
 fn fallen(before: u16, after: u16) -> u16
-    ensures same { λ r. ⌜ (before ≤ after → r ≡ 65535) ⌝ }
+    requires { ⌜ (before ≤ 32767) × (after ≤ 32767) ⌝ }
+    ensures same { λ r. ⌜ (before ≤ after → r ≡ 32767) ⌝ }
     ensures less { λ r. ⌜ (after < before → r ≡ after) ⌝ }
 {
-    if after < before {
+    if (after as i16) < (before as i16) {
         return after;
     }
     NONE
 }
 
-// Copies one line of a table: entries that stand a step apart, cut at 32,767, one after the other.
+// Copies one line of a table: entries that stand a step apart, cut at 16,383, one after the other.
 fn spread_line(
     table: &[u16],
     first: usize,
@@ -63,7 +56,7 @@ fn spread_line(
     }
 }
 
-// Copies a table of delays line by line into rows of 64 numbers, cut at 32,767: its rows if lines are a row apart and entries are neighbours, its
+// Copies a table of delays line by line into rows of 64 numbers, cut at 16,383: its rows if lines are a row apart and entries are neighbours, its
 // columns the other way round.
 pub fn spread(table: &[u16], outer: usize, inner: usize, tasks: usize, lines: &mut [u16])
     requires { ⌜ (tasks ≤ 64) × (outer ≤ 64) × (inner ≤ 64) × (tasks * 64 ≤ length (now lines)) × Small (now lines) ⌝ }
@@ -79,18 +72,18 @@ pub fn spread(table: &[u16], outer: usize, inner: usize, tasks: usize, lines: &m
     }
 }
 
-// Lowers a row of 64 numbers to a way and the numbers of another row after it. Gives the least of those that fell, 65,535 if none did.
+// Lowers a row of 64 numbers to a way and the numbers of another row after it. Gives the least of those that fell, 32,767 if none did.
 fn lower_row(way: u16, onward: &[u16], start: usize, rows: &mut [u16]) -> u16
-    requires { ⌜ (way ≤ 32767) × (length (now onward) ≡ 64) × ((y : ℕ) → y < 64 → at (now onward) y ≤ 32767) ⌝ }
-    requires { ⌜ (start + 64 ≤ length (now rows)) × (start ≤ 4096) ⌝ }
+    requires { ⌜ (way ≤ 16383) × (length (now onward) ≡ 64) × ((y : ℕ) → y < 64 → at (now onward) y ≤ 16383) ⌝ }
+    requires { ⌜ (start + 64 ≤ length (now rows)) × (start ≤ 4096) × ((y : ℕ) → y < 64 → at (now rows) (start + y) ≤ 16383) ⌝ }
     ensures { λ r. ⌜ RowFell way (now (onward .entry)) start 64 (now (rows .entry)) (now (rows .exit)) r ⌝ }
 {
     let mut least = NONE;
     let mut y = 0;
     while y < WIDTH {
         let before = rows[start + y];
-        let after = lesser(before, way + onward[y]);
-        least = lesser(least, fallen(before, after));
+        let after = nearer(before, way + onward[y]);
+        least = nearer(least, fallen(before, after));
         rows[start + y] = after;
         y += 1;
     }

@@ -1,5 +1,6 @@
 -- What delays between tasks say of an order. By a table of least delays it is held where the entry is at most the delay, which is at most 255, so that
--- 65,535, no path, holds none; by a square of single edges' delays it is held where the entry is at most the delay, since an edge is a path.
+-- 65,535, no path, holds none; by a square of single edges' delays it is held where the entry is at most the delay, since an edge is a path. By a least delay
+-- alone it is held exactly then, 16,383 standing for no path.
 use mathlib.Core.Path.{_≡_, refl, sym, ap, _∙_}
 use mathlib.Core.Logic.{_⊎_, inl, inr}
 use mathlib.Core.Bool.{Bool, true, false, not}
@@ -10,12 +11,13 @@ use native.Mathlib.Nat.{sub-zero, le-refl}
 use native.Mathlib.Omega.{arith}
 use lib.ListN.{length, getD, take, set, replicate, length-set, length-replicate, getD-replicate}
 use lib.Seq.{length-take-le, getD-take, getD-set-same, getD-set-other}
+use lib.Dec.{leb}
 use borrow.Author.Tests.{le-leb, lt-leb}
 use Rattle.model.specs.Tasks.{Edge, _∈_, Ends}
 use Rattle.model.specs.Compute.{leastDelay, atMost, orderHolds}
 use Rattle.model.proofs.Basics.{order}
 use Rattle.model.proofs.Walks.{path-edge, path-ends}
-use Rattle.model.proofs.Tests.{decides-yes, path-held}
+use Rattle.model.proofs.Tests.{decides-yes, decides-no, held-path, path-held}
 use Rattle.model.proofs.Theorems.{order-holds-is}
 use Rattle.files.specs.declared.Refusal.{Refusal}
 use Rattle.files.specs.Refusals.{refuse, notRefused}
@@ -23,10 +25,11 @@ use Rattle.files.proofs.First.{refused, not-refused, stops-at, stops-nowhere, n
 use Rattle.records.specs.Columns.{heldEdge, edgesOf}
 use Rattle.records.proofs.Edges.{edge-in}
 use Rattle.records.proofs.Rows.{place-within, product-small}
-use Rattle.delays.specs.Delays.{entry, delayTable, Fit}
+use Rattle.delays.specs.Delays.{entry, delayTable, Fit, edge}
 use Rattle.delays.proofs.Table.{table-at}
+use Rattle.sweeps.specs.Sweeps.{Lowest}
 use Rattle.schedule.proofs.Fronts.{front}
-use Rattle.verdicts.specs.Tables.{Among, Stepped, FirstAbove, all-within, above, between, lostFrom}
+use Rattle.verdicts.specs.Tables.{Among, Stepped, FirstAbove, all-within, above, NoneAbove, between, lostFrom}
 
 -- a list is the table of least delays of rs, between n tasks
 pub record TableOf (n : ℕ) (rs : List Edge) (table : List ℕ) : Type 0 where
@@ -56,6 +59,24 @@ module _ {n : ℕ} (few : n ≤ 64) {rs : List Edge} {table : List ℕ} (is : Ta
       go (some d) found =
           let same : getD table (a * n + b) 0 ≡ d = stands ∙ ap entry found in
           ap (λ (o : Option ℕ). atMost o delay) found ∙ lt-leb d delay (omega arith)
+
+-- a least delay alone decides an order
+pub order-by-least :
+    {es : List Edge} (n a b x delay : ℕ) → delay ≤ 255 → Ends n es → Lowest es a b x → leb x delay ≡ orderHolds n es (edge a b delay)
+order-by-least {es} n a b x delay short ends lowest = go (order x delay)
+  where
+    go : (x ≤ delay) ⊎ (delay < x) → leb x delay ≡ orderHolds n es (edge a b delay)
+    go (inl within) =
+        le-leb x delay within ∙
+        sym (decides-yes (order-holds-is n es ends (edge a b delay)) (path-held ends (edge a b delay) (lowest .held .path (omega arith)) within))
+    go (inr beyond) =
+        lt-leb x delay beyond ∙
+        sym
+        (decides-no (order-holds-is n es ends (edge a b delay))
+        (λ h.
+        let found = held-path h in
+        let least = lowest .least (found .0) (found .1) in
+        omega (arith, found .2)))
 
 -- ── Single edges ──
 
@@ -129,6 +150,13 @@ pub steps-front : {n size : ℕ} {rs : List Edge} {square : List ℕ} → n * n 
 steps-front {n} {size} {rs} {square} fits held =
     let room : length square ≡ size = held .room in
     ap (λ (k : ℕ). length (take k square)) (sub-zero (n * n)) ∙ length-take-le (n * n) square (omega arith)
+
+-- the edge that a search finds
+pub found-above :
+    {n : ℕ} {source sink delay table : List ℕ} {r : Refusal} → FirstAbove n source sink delay table r → (r .number ≡ 0 → ⊥)
+    → (j : ℕ) × (r ≡ record { number = 14; place = suc j }) × (n + j < length source) × ((i : ℕ) → i < j → between n source sink table i ≤ getD delay (n + i) 0)
+found-above (above j found below kept beyond) refuses = (j, found, below, kept)
+found-above (all-within passed kept) refuses = absurd (refuses (number-same passed))
 
 -- ── The first order lost ──
 
@@ -208,3 +236,44 @@ module _ {n : ℕ} (few : n ≤ 64) (source sink delay : List ℕ) (rs : List Ed
         sym
         (stops-nowhere (length source - n) (λ i. refuse (not (held i)) 14 (suc i)) {k = length source - n} (omega arith)
         (λ i earlier. not-lost i (order-stepped i (omega arith) (kept i (omega arith)))))
+
+    -- the search in the square of single edges, where it finds one edge alone: its order decides
+    module _ {r : Refusal} (first : FirstAbove n source sink delay (front (n * n) square) r) (refuses : r .number ≡ 0 → ⊥)
+        (others : NoneAbove n source sink delay (front (n * n) square) (r .place)) where
+      abbrev alone : ℕ
+      alone = found-above first refuses .0
+
+      place-is : r .place ≡ suc alone
+      place-is = ap (λ (x : Refusal). x .place) (found-above first refuses .1)
+
+      other-held : (i : ℕ) → n + i < length source → (i < alone) ⊎ (alone < i) → held i ≡ true
+      other-held i below (inl earlier) = order-stepped i below (found-above first refuses .3 i earlier)
+      other-held i below (inr later) = order-stepped i below (others i (omega (arith, place-is, later)) below)
+
+      -- the edge's entry in the three lists
+      alone-entry : n + r .place - 1 ≡ n + alone
+      alone-entry = omega (arith, place-is)
+
+      pub kept-alone : true ≡ orderHolds n rs (heldEdge source sink delay (n + r .place - 1)) → notRefused ≡ lostFrom n rs source sink delay
+      unfolding lostFrom
+      kept-alone is =
+          sym
+          (stops-nowhere (length source - n) (λ i. refuse (not (held i)) 14 (suc i)) {k = length source - n} (omega arith)
+          (λ i earlier. not-lost i (go i (omega arith) (order i alone) (order alone i))))
+        where
+          go : (i : ℕ) → n + i < length source → (i ≤ alone) ⊎ (alone < i) → (alone ≤ i) ⊎ (i < alone) → held i ≡ true
+          go i below (inr later) q = other-held i below (inr later)
+          go i below (inl h) (inr earlier) = other-held i below (inl earlier)
+          go i below (inl h) (inl h′) =
+              let same : n + r .place - 1 ≡ n + i = omega (arith, place-is) in
+              sym (is ∙ ap (λ (k : ℕ). orderHolds n rs (heldEdge source sink delay k)) same)
+
+      pub lost-alone : false ≡ orderHolds n rs (heldEdge source sink delay (n + r .place - 1)) → r ≡ lostFrom n rs source sink delay
+      unfolding lostFrom
+      lost-alone is =
+          found-above first refuses .1 ∙
+          sym
+          (stops-at (length source - n) (λ i. refuse (not (held i)) 14 (suc i)) {k = alone} {r = record { number = 14; place = suc alone }}
+          (omega (arith, found-above first refuses .2))
+          (λ i earlier. not-lost i (other-held i (omega (arith, found-above first refuses .2)) (inl earlier)))
+          (refused 14 (suc alone) (ap not (sym (is ∙ ap (λ (k : ℕ). orderHolds n rs (heldEdge source sink delay k)) alone-entry)))) (λ z. omega arith))

@@ -42,6 +42,10 @@ pub data FirstAbove (n : ℕ) (source sink delay table : List ℕ) (r : Refusal)
       ((i : ℕ) → i < j → between n source sink table i ≤ getD delay (n + i) 0) → getD delay (n + j) 0 < between n source sink table j →
       FirstAbove n source sink delay table r
 
+-- none of the edges from entry n + k on has a delay below the table's entry
+abbrev pub NoneAbove : ℕ → List ℕ → List ℕ → List ℕ → List ℕ → ℕ → Type 0
+NoneAbove n source sink delay table k = (i : ℕ) → k ≤ i → n + i < length source → between n source sink table i ≤ getD delay (n + i) 0
+
 -- the first of the edges from entry n on whose order is lost in rs
 unfoldable pub lostFrom : ℕ → List Edge → List ℕ → List ℕ → List ℕ → Refusal
 lostFrom n rs source sink delay =

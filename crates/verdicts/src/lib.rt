@@ -2,16 +2,18 @@
 ghost use mathlib.Core.Path.{_≡_};
 ghost use mathlib.Core.List.{List};
 ghost use mathlib.Core.Logic.{_⊎_};
+ghost use mathlib.Core.Bool.{true};
 ghost use Prim.Native.Nat.{ℕ, _+_, _*_, _≤_, _<_};
 ghost use lib.ListN.{length, replicate};
-ghost use Rattle.model.specs.Tasks.{Edge};
+ghost use Rattle.model.specs.Tasks.{Edge, Ends};
 ghost use Rattle.model.specs.Graph.{Graph};
+ghost use Rattle.model.specs.Compute.{orderHolds};
 ghost use Rattle.records.specs.Columns.{edgesOf, at};
-ghost use Rattle.delays.specs.Delays.{Fit};
+ghost use Rattle.delays.specs.Delays.{Fit, edge};
 ghost use Rattle.reach.specs.Reach.{ReachesOn};
 ghost use Rattle.readings.specs.Working.{graphFrom, proposalFrom};
 ghost use Rattle.verdicts.specs.Verdicts.{judgement, OpenPlace, Judgeable};
-ghost use Rattle.verdicts.specs.Tables.{FoundCyclic, Among, Stepped, FirstAbove, lostFrom};
+ghost use Rattle.verdicts.specs.Tables.{FoundCyclic, Among, Stepped, FirstAbove, NoneAbove, lostFrom};
 use files::Refusal;
 use reach::leads_to;
 use reach::paths_between_processors;
@@ -20,6 +22,7 @@ use readings::GraphNumbers;
 use readings::ProposalNumbers;
 use results::result_edges_into;
 use tables::least_table;
+use ways::least_row;
 
 // The verdict on proposed edges: the refusal, and the latency of the result if it is accepted or late, 0 otherwise.
 pub struct Judgement {
@@ -39,6 +42,9 @@ const LATE: Refusal = Refusal {
 
 // So many tasks that a square of 256 entries has room for the delays between them.
 const FEW: usize = 16;
+
+// No path, in a row of least delays: above every delay.
+const FAR: u16 = 16383;
 
 // The place of an edge that lies on a cycle, counted from 1, or 0 if none does: by between which processors paths lead in the graph that has them.
 fn cyclic_place<'a>(source: &'a [u8], sink: &'a [u8], processor: &'a [u8], words: &'a [u64]) -> u32
@@ -120,8 +126,59 @@ fn first_above<'a>(
     PASSED
 }
 
+// Whether no edge of a graph's file from number `first` on, counted from 0, has a delay below the entry of its ends.
+fn none_above<'a>(
+    source: &'a [u8],
+    sink: &'a [u8],
+    delay: &'a [u8],
+    table: &'a [u16],
+    tasks: usize,
+    first: usize,
+) -> bool
+    requires { ⌜ (length (now sink) ≡ length (now source)) × (length (now delay) ≡ length (now source)) ⌝ }
+    requires { ⌜ (tasks + first ≤ length (now source)) × (length (now source) ≤ 320) ⌝ }
+    requires { ⌜ (tasks ≤ 64) × (length (now table) ≡ tasks * tasks) ⌝ }
+    requires { ⌜ Fit tasks (edgesOf (now source) (now sink) (now delay)) ⌝ }
+    ensures { λ r. ⌜ (r ≡ true → NoneAbove tasks (now (source .entry)) (now (sink .entry)) (now (delay .entry)) (now (table .entry)) first) ⌝ }
+{
+    let mut i = first;
+    while tasks + i < source.len() {
+        let from = source[tasks + i] as usize;
+        let to = sink[tasks + i] as usize;
+        if (delay[tasks + i] as u16) < table[from * tasks + to] {
+            return false;
+        }
+        i += 1;
+    }
+    true
+}
+
+// Whether the result holds the order of an edge: by the least delays out of its source.
+fn order_held<'a>(
+    source: u8,
+    sink: u8,
+    delay: u8,
+    result_source: &'a [u8],
+    result_sink: &'a [u8],
+    result_delay: &'a [u8],
+) -> bool
+    requires { ⌜ (length (now «result_sink») ≡ length (now «result_source»)) × (length (now «result_delay») ≡ length (now «result_source»)) ⌝ }
+    requires { ⌜ (sink < 64) × Fit 64 (edgesOf (now «result_source») (now «result_sink») (now «result_delay»)) ⌝ }
+    ensures { λ r. ⌜ ((n : ℕ) → Ends n (edgesOf (now («result_source» .entry)) (now («result_sink» .entry)) (now («result_delay» .entry))) → r ≡ orderHolds n (edgesOf (now («result_source» .entry)) (now («result_sink» .entry)) (now («result_delay» .entry))) (edge source sink delay)) ⌝ }
+{
+    let mut row: [u16; 64] = [FAR; 64];
+    least_row(
+        result_source,
+        result_sink,
+        result_delay,
+        source as usize,
+        &mut row,
+    );
+    row[sink as usize] <= delay as u16
+}
+
 // 14: the first edge of a graph's file whose order is lost in the result, by a square of 65,535 to write into. An edge of the result with the same ends and
-// no more delay holds an order; only where one lacks such an edge the least delays are worked out.
+// no more delay holds an order. Where only one lacks such an edge the least delays out of its source decide; where more do, all least delays are worked out.
 fn lost_by<'a>(
     source: &'a [u8],
     sink: &'a [u8],
@@ -130,11 +187,12 @@ fn lost_by<'a>(
     result_sink: &'a [u8],
     result_delay: &'a [u8],
     tasks: usize,
+    sequence: &'a [u8],
     table: &mut [u16],
 ) -> Refusal
     requires { ⌜ (length (now sink) ≡ length (now source)) × (length (now delay) ≡ length (now source)) ⌝ }
     requires { ⌜ (length (now «result_sink») ≡ length (now «result_source»)) × (length (now «result_delay») ≡ length (now «result_source»)) ⌝ }
-    requires { ⌜ (tasks ≤ length (now source)) × (length (now source) ≤ 320) × (tasks ≤ 64) ⌝ }
+    requires { ⌜ (tasks ≤ length (now source)) × (length (now source) ≤ 320) × (tasks ≤ 64) × (length (now sequence) ≤ 64) ⌝ }
     requires { ⌜ (tasks * tasks ≤ length (now table)) × (now table ≡ replicate (length (now table)) 65535) ⌝ }
     requires { ⌜ Fit tasks (edgesOf (now source) (now sink) (now delay)) ⌝ }
     requires { ⌜ Fit tasks (edgesOf (now «result_source») (now «result_sink») (now «result_delay»)) ⌝ }
@@ -145,7 +203,29 @@ fn lost_by<'a>(
     if open.number == 0 {
         return open;
     }
-    least_table(result_source, result_sink, result_delay, tasks, table);
+    let next = open.place as usize;
+    if none_above(source, sink, delay, &table[0..tasks * tasks], tasks, next) {
+        let alone = tasks + next - 1;
+        if order_held(
+            source[alone],
+            sink[alone],
+            delay[alone],
+            result_source,
+            result_sink,
+            result_delay,
+        ) {
+            return PASSED;
+        }
+        return open;
+    }
+    least_table(
+        result_source,
+        result_sink,
+        result_delay,
+        tasks,
+        sequence,
+        table,
+    );
     first_above(source, sink, delay, &table[0..tasks * tasks], tasks)
 }
 
@@ -160,10 +240,11 @@ fn lost_order<'a>(
     result_delay: &'a [u8],
     proposed: usize,
     tasks: usize,
+    sequence: &'a [u8],
 ) -> Refusal
     requires { ⌜ (length (now sink) ≡ length (now source)) × (length (now delay) ≡ length (now source)) ⌝ }
     requires { ⌜ (length (now «result_sink») ≡ length (now «result_source»)) × (length (now «result_delay») ≡ length (now «result_source»)) ⌝ }
-    requires { ⌜ (tasks ≤ length (now source)) × (length (now source) ≤ 320) × (tasks ≤ 64) × (proposed ≤ 256) ⌝ }
+    requires { ⌜ (tasks ≤ length (now source)) × (length (now source) ≤ 320) × (tasks ≤ 64) × (proposed ≤ 256) × (length (now sequence) ≤ 64) ⌝ }
     requires { ⌜ (length (now «result_source») ≡ length (now source) + proposed → Among (now source) (now sink) (now delay) (edgesOf (now «result_source») (now «result_sink») (now «result_delay»))) ⌝ }
     requires { ⌜ Fit tasks (edgesOf (now source) (now sink) (now delay)) ⌝ }
     requires { ⌜ Fit tasks (edgesOf (now «result_source») (now «result_sink») (now «result_delay»)) ⌝ }
@@ -182,6 +263,7 @@ fn lost_order<'a>(
             result_sink,
             result_delay,
             tasks,
+            sequence,
             &mut small,
         );
     }
@@ -194,11 +276,13 @@ fn lost_order<'a>(
         result_sink,
         result_delay,
         tasks,
+        sequence,
         &mut table,
     )
 }
 
-// Judges proposed edges beside a graph, whose lists stand apart from their numbers.
+// Judges proposed edges beside a graph, whose lists stand apart from their numbers, by a sequence of tasks along which least delays are quick to find; any
+// will do.
 pub fn judge<'a>(
     graph: GraphNumbers,
     processor: &'a [u8],
@@ -210,8 +294,10 @@ pub fn judge<'a>(
     proposed_source: &'a [u8],
     proposed_sink: &'a [u8],
     proposed_delay: &'a [u8],
+    sequence: &'a [u8],
 ) -> Judgement
     requires { ⌜ ((g : Graph) × (proposed : List Edge) × Judgeable (graphFrom graph (now processor) (now time) (now source) (now sink) (now delay)) (proposalFrom proposal (now «proposed_source») (now «proposed_sink») (now «proposed_delay»)) g proposed) ⌝ }
+    requires { ⌜ length (now sequence) ≤ 64 ⌝ }
     ensures { λ r. ⌜ ((g : Graph) (proposed : List Edge) → Judgeable (graphFrom graph (now (processor .entry)) (now (time .entry)) (now (source .entry)) (now (sink .entry)) (now (delay .entry))) (proposalFrom proposal (now («proposed_source» .entry)) (now («proposed_sink» .entry)) (now («proposed_delay» .entry))) g proposed → r ≡ judgement g proposed (r .refusal .place)) ⌝ }
     ensures { λ r. ⌜ ((g : Graph) (proposed : List Edge) → Judgeable (graphFrom graph (now (processor .entry)) (now (time .entry)) (now (source .entry)) (now (sink .entry)) (now (delay .entry))) (proposalFrom proposal (now («proposed_source» .entry)) (now («proposed_sink» .entry)) (now («proposed_delay» .entry))) g proposed → r .refusal .number ≡ 13 → OpenPlace g proposed (r .refusal .place)) ⌝ }
 {
@@ -260,6 +346,7 @@ pub fn judge<'a>(
         &result_delay[0..count],
         proposed,
         tasks,
+        sequence,
     );
     if lost.number != 0 {
         return Judgement {

@@ -11,6 +11,7 @@ use borrow.Rule.Slice.PartMut.{mid-len}
 use Rattle.records.specs.Columns.{at}
 use Rattle.candidates.specs.Candidates.{worthIn}
 use Rattle.candidates.specs.Searches.{UnitRow}
+use Rattle.candidates.proofs.Times.{zeros-small}
 use Rattle.candidates.proofs.Worth.{rowOf, rowFront, worth-by-row, worth-few}
 use Rattle.candidates.proofs.Best.{BestUp, best-none, best-row, best-skipped, row-done, best-of-all}
 use Rattle.candidates.proofs.best_pair.Statement.{statement}
@@ -57,7 +58,7 @@ slice-aggregate-unit-row c = refl
 unit-row-requires : tie.Need-unit-row-requires Inv-loop μ-loop
 unit-row-requires c κs =
     let asked = c .before .before .before .before .before .pre in
-    (omega arith, omega (arith, asked .0, asked .4), refl)
+    (omega arith, omega (arith, asked .0, asked .4), refl, zeros-small)
 
 slice-aggregate-unit-row-2 : tie.Need-slice-aggregate-unit-row-2 Inv-loop μ-loop
 slice-aggregate-unit-row-2 c = refl
@@ -65,7 +66,7 @@ slice-aggregate-unit-row-2 c = refl
 unit-row-requires-2 : tie.Need-unit-row-requires-2 Inv-loop μ-loop
 unit-row-requires-2 c κs =
     let asked = c .before .before .before .before .before .before .before .before .pre in
-    (omega arith, omega (arith, asked .0, asked .4), refl)
+    (omega arith, omega (arith, asked .0, asked .4), refl, zeros-small)
 
 loop-holds : tie.Need-loop-holds Inv-loop μ-loop
 loop-holds c = (omega arith, best-none _ _ (omega arith))
@@ -95,11 +96,14 @@ may-exceed-requires c κs =
     let inner = c .before .before .before .before in
     let asked = start inner .pre in
     let inside = inner .loop-test .taken in (
-      omega (arith, asked .0, inside),
-      omega (arith, asked .1, inside),
-      omega (arith, asked .2, inside),
-      fine-row inner .size,
-      coarse-row inner .size,
+      (
+        omega (arith, asked .0, inside),
+        omega (arith, asked .1, inside),
+        omega (arith, asked .2, inside),
+        fine-row inner .size,
+        coarse-row inner .size,
+      ),
+      (fine-row inner .small, coarse-row inner .small),
     )
 
 add-best-counted : tie.Need-add-best-counted Inv-loop μ-loop

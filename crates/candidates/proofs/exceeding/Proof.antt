@@ -46,7 +46,11 @@ shared-slice-read-exceeds-3 : tie.Need-shared-slice-read-exceeds-3 Inv-loop μ-l
 shared-slice-read-exceeds-3 c = omega (arith, begin (c .before .before .before) .pre)
 
 exceeds-requires : tie.Need-exceeds-requires Inv-loop μ-loop
-exceeds-requires c κs = search needs
+unfolding at
+exceeds-requires c κs =
+    let inner = c .before .before .before in
+    let asked = begin inner .pre .1 in
+    (asked .0, asked .1 (inner .before .loop .b) (omega arith))
 
 add-many : tie.Need-add-many Inv-loop μ-loop
 add-many c = omega (arith, c .exceeds .ensures .0)
@@ -70,7 +74,7 @@ loop-again c =
           let before : loop .many ≡ 0 = omega arith in
           let now : more ≡ 0 = omega arith in
           below-more
-          (λ d. at (args .to .now) (args .start + d) ≡ 32767 → args .end ≤ at (args .latest .now) d → at (args .counts .now) (args .start + d) ≤ args .least)
+          (λ d. at (args .to .now) (args .start + d) ≡ 16383 → args .end ≤ at (args .latest .now) d → at (args .counts .now) (args .start + d) ≤ args .least)
           (loop .b) (loop .inv .2 before) (c .exceeds .ensures .1 now),
     )
 

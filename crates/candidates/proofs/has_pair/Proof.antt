@@ -5,12 +5,13 @@ use Prim.Native.Nat.{ℕ, _+_, _-_, _*_, _≤_, _<_, zero-le}
 use native.Mathlib.Omega.{arith}
 use borrow.Author.Count.{below-none, below-more}
 use Rattle.records.specs.Columns.{at}
+use Rattle.candidates.proofs.Times.{zeros-small}
 use Rattle.candidates.proofs.has_pair.Statement.{statement}
 use Rattle.candidates.proofs.has_pair.Tie as tie
 
 abbrev Inv-loop : tie.InvT-loop
 Inv-loop counts to tasks any a₀ a =
-    (a ≤ tasks) × ((x : ℕ) → x < a → (b : ℕ) → b < 64 → at to (x * 64 + b) ≡ 32767 → at counts (x * 64 + b) < 2)
+    (a ≤ tasks) × ((x : ℕ) → x < a → (b : ℕ) → b < 64 → at to (x * 64 + b) ≡ 16383 → at counts (x * 64 + b) < 2)
 
 abbrev μ-loop : tie.MeasureT-loop
 μ-loop counts to tasks any a₀ a = tasks - a
@@ -27,7 +28,7 @@ slice-aggregate-exceeding c = refl
 exceeding-requires : tie.Need-exceeding-requires Inv-loop μ-loop
 exceeding-requires c κs =
     let asked = (c .before .before .before .before .before .pre) in
-    (omega (arith, asked .0), omega (arith, asked .1), omega (arith, asked .2), refl)
+    ((omega (arith, asked .0), omega (arith, asked .1), omega (arith, asked .2), refl), (omega arith, zeros-small))
 
 returns : tie.Need-returns Inv-loop μ-loop
 returns c = λ q. absurd (true≢false q)
@@ -43,7 +44,7 @@ loop-again c =
     let args = (c .before .before .before .before .before .before .before .args) in
     let loop = (c .before .before .before .before .loop) in (
       omega arith,
-      below-more (λ (x : ℕ). (b : ℕ) → b < 64 → at (args .to .now) (x * 64 + b) ≡ 32767 → at (args .counts .now) (x * 64 + b) < 2) (loop .a) (loop .inv .1)
+      below-more (λ (x : ℕ). (b : ℕ) → b < 64 → at (args .to .now) (x * 64 + b) ≡ 16383 → at (args .counts .now) (x * 64 + b) < 2) (loop .a) (loop .inv .1)
           (λ b l none. omega (arith, (c .before .exceeding .ensures) ((c .if1 .left)) b l none zero-le)),
     )
 

@@ -17,6 +17,9 @@ is-none x q = go (eqb x 0) (eqb→eq x 0) q
     go true is q = is tt
     go false is q = absurd (true≢false q)
 
+cast-if1 : tie.Need-cast-if1
+cast-if1 c = search needs
+
 units-requires : tie.Need-units-requires
 units-requires c κs = search needs
 
@@ -47,6 +50,7 @@ pub may-exceed-spec : {M : Type 1} → statement M
 may-exceed-spec =
     tie.close
     (tie.spec
+    cast-if1
     units-requires
     exceeding-requires
     returns

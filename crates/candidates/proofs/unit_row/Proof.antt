@@ -23,7 +23,7 @@ begin c = c .before .before .before .before
 loop-holds : tie.Need-loop-holds Inv-loop μ-loop
 loop-holds c =
     let args = c .before .before .args in
-    (omega arith, units-none (args .times .now) (args .power) (args .row .now) (c .before .before .pre .2))
+    (omega arith, units-none (args .times .now) (args .power) (args .row .now) (c .before .before .pre .2) (c .before .before .pre .3))
 
 mul-units : tie.Need-mul-units Inv-loop μ-loop
 mul-units c = omega (arith, begin c .pre .1)

@@ -1,23 +1,22 @@
 -- `counts::count_edge` meets its contract: after a steps the edge is counted for the pairs out of the first a tasks. Where nothing is left of its limit,
 -- it has no share.
 use mathlib.Core.Path.{_≡_, refl, sym, subst}
-use mathlib.Core.Bool.{true, false, true≢false}
-use mathlib.Core.Logic.{inr, ⊎-elim}
+use mathlib.Core.Logic.{⊎-elim}
 use mathlib.Core.List.{List}
 use Prim.Native.Nat.{ℕ, _+_, _-_, _*_, _≤_}
 use native.Mathlib.Omega.{arith}
 use borrow.Author.Needs.{needs}
 use Rattle.records.specs.Columns.{at}
-use Rattle.counts.specs.Counts.{EdgeShifted}
-use Rattle.counts.proofs.Shifts.{edge-none, edge-covered, edge-moved, edge-passed}
+use Rattle.counts.specs.Counts.{BelowRow, EdgeShifted}
+use Rattle.counts.proofs.Shifts.{below-few, below-zero, share-none, edge-none, edge-covered, edge-moved, edge-passed}
 use Rattle.counts.proofs.count_edge.Statement.{statement}
 use Rattle.counts.proofs.count_edge.Tie as tie
 
 abbrev Inv-loop : tie.InvT-loop
-Inv-loop from to source sink limit tasks counts₀ a₀ counts a = (a ≤ tasks) × EdgeShifted from to from to source sink 0 limit a counts₀ counts
+Inv-loop from to source sink limit tasks counts₀ more₀ last₀ a₀ counts more last a = (a ≤ tasks) × EdgeShifted from to from to source sink 0 limit a counts₀ counts × BelowRow to (sink * 64) last 64 more
 
 abbrev μ-loop : tie.MeasureT-loop
-μ-loop from to source sink limit tasks counts₀ a₀ counts a = tasks - a
+μ-loop from to source sink limit tasks counts₀ more₀ last₀ a₀ counts more last a = tasks - a
 
 abbrev begin : tie.In-loop Inv-loop μ-loop → tie.Start Inv-loop μ-loop
 begin c = c .before .before .before .before .before
@@ -25,7 +24,7 @@ begin c = c .before .before .before .before .before
 loop-holds : tie.Need-loop-holds Inv-loop μ-loop
 loop-holds c =
     let args = c .before .before .before .args in
-    (omega arith, edge-none (args .from .now) (args .to .now) (args .from .now) (args .to .now) (args .source) (args .sink) 0 (args .limit) (args .counts .now))
+    (omega arith, edge-none (args .from .now) (args .to .now) (args .from .now) (args .to .now) (args .source) (args .sink) 0 (args .limit) (args .counts .now), below-zero (args .to .now) (args .sink * 64))
 
 mul-left-of : tie.Need-mul-left-of Inv-loop μ-loop
 mul-left-of c = omega (arith, begin c .pre .1 .0)
@@ -44,30 +43,47 @@ shared-slice-read-left-of c =
 left-of-requires : tie.Need-left-of-requires Inv-loop μ-loop
 left-of-requires c κs = search needs
 
-mul-add-row : tie.Need-mul-add-row Inv-loop μ-loop
-mul-add-row c = omega (arith, begin (c .before .before .before) .pre .1 .0)
+mul-renew-row : tie.Need-mul-renew-row Inv-loop μ-loop
+mul-renew-row c = omega (arith, begin (c .before .before .before) .pre .1 .0)
 
-mul-add-row-2 : tie.Need-mul-add-row-2 Inv-loop μ-loop
-mul-add-row-2 c = omega (arith, begin (c .before .before .before) .pre .1 .0)
+slice-aggregate-renew-row : tie.Need-slice-aggregate-renew-row Inv-loop μ-loop
+slice-aggregate-renew-row c = sym (c .before .before .before .before .before .loop .inv .2 .size)
 
-add-row-requires : tie.Need-add-row-requires Inv-loop μ-loop
+renew-row-requires : tie.Need-renew-row-requires Inv-loop μ-loop
 unfolding at
-add-row-requires c κs =
+renew-row-requires c κs =
     let inner = c .before .before .before .before in
+    let asked = begin inner .pre in (
+      (
+        omega (arith, asked .0 .1, asked .1 .0),
+        omega (arith, asked .1 .0),
+        omega (arith, c .before .before .left-of .ensures, asked .1 .0 .3),
+      ),
+      ((λ b l. asked .1 .0 .4 _ (omega (arith, asked .1 .0))), inner .before .loop .inv .2),
+    )
+
+slice-aggregate-more-row : tie.Need-slice-aggregate-more-row Inv-loop μ-loop
+slice-aggregate-more-row c = sym (c .before .before .renew-row .ensures .size)
+
+mul-more-row : tie.Need-mul-more-row Inv-loop μ-loop
+mul-more-row c = omega (arith, begin (c .before .before .before .before .before .before .before) .pre .1 .0)
+
+more-row-requires : tie.Need-more-row-requires Inv-loop μ-loop
+unfolding at
+more-row-requires c κs =
+    let inner = c .before .before .before .before .before .before .before .before in
     let args = begin inner .args in
     let asked = begin inner .pre in
     let loop = inner .before .loop in
     let below = inner .loop-test .taken in
+    let tests = c .before .before .before .renew-row .ensures in
     let none : 0 ≡ 0 - at (args .from .now) (args .source * 64 + loop .a) = omega arith in (
       (
-        omega (arith, asked .0 .1, asked .1 .0),
+        tests .size,
         omega (arith, asked .0 .2, loop .inv .1 .size, below),
-        omega (arith, asked .1 .0),
         omega (arith, asked .1 .0, below),
       ),
-      (λ b l.
-          edge-covered (args .from .now) (args .to .now) (args .from .now) (args .to .now) (args .source) (args .sink) 0 (args .limit)
-          (loop .inv .1) (asked .1 .1) below none b l .1),
+      (λ b l. (below-few (args .to .now) (args .sink * 64) _ tests b l, edge-covered (args .from .now) (args .to .now) (args .from .now) (args .to .now) (args .source) (args .sink) 0 (args .limit) (loop .inv .1) (asked .1 .1) below none b l .1)),
     )
 
 add-a : tie.Need-add-a Inv-loop μ-loop
@@ -85,18 +101,16 @@ loop-again c =
     let none : 0 ≡ 0 - at (args .from .now) (args .source * 64 + loop .a) = omega arith in
     let Next : List ℕ → Type 0
     = λ after.
-    EdgeShifted (args .from .now) (args .to .now) (args .from .now) (args .to .now) (args .source) (args .sink) 0 (args .limit)
-    (loop .a + 1) (args .counts .now) after in (
+    EdgeShifted (args .from .now) (args .to .now) (args .from .now) (args .to .now) (args .source) (args .sink) 0 (args .limit) (loop .a + 1) (args .counts .now) after in
+    let Tests : List ℕ → ℕ → Type 0 = λ row last. BelowRow (args .to .now) (args .sink * 64) last 64 row in (
       omega arith,
       ⊎-elim
-          (λ w.
-          subst Next (sym (w .5))
-          (edge-moved (args .from .now) (args .to .now) (args .from .now) (args .to .now) (args .source) (args .sink) 0 (args .limit)
-          (loop .inv .1) none (c .before .left-of .ensures) (w .2 .ensures)))
-          (λ w.
-          subst Next (sym (w .1))
-          (edge-passed (args .from .now) (args .to .now) (args .from .now) (args .to .now) (args .source) (args .sink) 0 (args .limit)
-          (loop .inv .1) {same = false} none (c .before .left-of .ensures) (λ q. absurd (true≢false (sym q))) (inr (refl, omega (arith, w .0 .left)))))
+          (λ w. subst Next (sym (w .9)) (edge-moved (args .from .now) (args .to .now) (args .from .now) (args .to .now) (args .source) (args .sink) 0 (args .limit) (loop .inv .1) none (c .before .left-of .ensures) (λ b l. sym (share-none (at (args .to .now) (args .sink * 64 + b)) {left = 0} refl)) (λ b l. w .2 .ensures .each b l) (w .6 .ensures)))
+          (λ w. subst Next (sym (w .1)) (edge-passed (args .from .now) (args .to .now) (args .from .now) (args .to .now) (args .source) (args .sink) 0 (args .limit) (loop .inv .1) {fell = 0} none (c .before .left-of .ensures) (λ b l below few. refl) (omega (arith, w .0 .left), omega (arith, w .0 .left))))
+          (c .if1 .came),
+      ⊎-elim
+          (λ w. subst (λ (row : List ℕ). Tests row (c .if1 .last)) (sym (w .10)) (subst (Tests _) (sym (w .11)) (w .2 .ensures)))
+          (λ w. subst (λ (row : List ℕ). Tests row (c .if1 .last)) (sym (w .2)) (subst (Tests _) (sym (w .3)) (loop .inv .2)))
           (c .if1 .came),
     )
 
@@ -107,10 +121,7 @@ returns : tie.Need-returns Inv-loop μ-loop
 returns c =
     let args = c .before .before .before .before .before .args in
     let whole : c .before .loop .a ≡ args .tasks = omega arith in
-    subst
-    (λ (a : ℕ).
-    EdgeShifted (args .from .now) (args .to .now) (args .from .now) (args .to .now) (args .source) (args .sink) 0 (args .limit) a
-    (args .counts .now) (c .before .loop .counts)) whole (c .before .loop .inv .1)
+    subst (λ (a : ℕ). EdgeShifted (args .from .now) (args .to .now) (args .from .now) (args .to .now) (args .source) (args .sink) 0 (args .limit) a (args .counts .now) (c .before .loop .counts)) whole (c .before .loop .inv .1)
 
 pub count-edge-spec : {M : Type 1} → statement M
 count-edge-spec =
@@ -124,9 +135,12 @@ count-edge-spec =
     mul-left-of-2
     shared-slice-read-left-of
     left-of-requires
-    mul-add-row
-    mul-add-row-2
-    add-row-requires
+    mul-renew-row
+    slice-aggregate-renew-row
+    renew-row-requires
+    slice-aggregate-more-row
+    mul-more-row
+    more-row-requires
     add-a
     loop-less
     loop-again

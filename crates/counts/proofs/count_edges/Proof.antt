@@ -22,7 +22,7 @@ loop-holds : tie.Need-loop-holds Inv-loop μ-loop
 loop-holds c =
     let args = c .before .before .before .before .before .before .args in
     let asked = c .before .before .before .before .before .before .pre in
-    (omega arith, counts-none (args .source .now) (args .sink .now) (args .delay .now) (args .tasks) (args .from .now) (args .to .now) (asked .1 .0 .2) (asked .1 .1 .1), refl)
+    (omega arith, counts-none (args .source .now) (args .sink .now) (args .delay .now) (args .tasks) (args .from .now) (args .to .now) (asked .1 .0 .2) (asked .1 .1 .1 .1), refl)
 
 shared-slice-read-count-edge : tie.Need-shared-slice-read-count-edge Inv-loop μ-loop
 shared-slice-read-count-edge c = omega (arith, c .before .before .before .before .before .before .before .before .before .pre .0)
@@ -56,7 +56,7 @@ count-edge-requires c κs =
     let few = asked .1 .1 .0 .0 in (
       (asked .1 .0 .0, asked .1 .0 .1, loop .inv .1 .size),
       (
-        (few, ends .0, ends .1),
+        (few, ends .0, ends .1, omega (arith, c .before .shared-slice-known8 .given (loop .j)), asked .1 .1 .1 .0),
         counts-covered (args .source .now) (args .sink .now) (args .delay .now) (args .tasks) (args .from .now) (args .to .now) (loop .j) (loop .inv .1) (omega (arith, asked .0, below)) _ _,
       ),
     )

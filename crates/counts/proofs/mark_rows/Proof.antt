@@ -10,10 +10,10 @@ use Rattle.counts.proofs.mark_rows.Statement.{statement}
 use Rattle.counts.proofs.mark_rows.Tie as tie
 
 abbrev Inv-loop : tie.InvT-loop
-Inv-loop old new same marks₀ a₀ marks a = (a ≤ 64) × RowsMarked old new same a marks
+Inv-loop old new fell marks₀ a₀ marks a = (a ≤ 64) × RowsMarked old new fell a marks
 
 abbrev μ-loop : tie.MeasureT-loop
-μ-loop old new same marks₀ a₀ marks a = 64 - a
+μ-loop old new fell marks₀ a₀ marks a = 64 - a
 
 abbrev begin : tie.In-loop Inv-loop μ-loop → tie.Start Inv-loop μ-loop
 begin c = c .before .before .before .before .before
@@ -21,7 +21,7 @@ begin c = c .before .before .before .before .before
 loop-holds : tie.Need-loop-holds Inv-loop μ-loop
 loop-holds c =
     let args = c .before .before .before .args in
-    (omega arith, marks-none (args .old .now) (args .new .now) (args .same) (args .marks .now) (c .before .before .before .pre .2))
+    (omega arith, marks-none (args .old .now) (args .new .now) (args .fell) (args .marks .now) (c .before .before .before .pre .2))
 
 mul-moves : tie.Need-mul-moves Inv-loop μ-loop
 mul-moves c = omega arith
@@ -55,7 +55,7 @@ unfolding at
 loop-again c =
     let inner = c .before .before .before in
     let args = begin inner .args in
-    (omega arith, marks-more (args .old .now) (args .new .now) (args .same) (c .moves .result) (inner .before .loop .inv .1) (omega arith) (c .moves .ensures))
+    (omega arith, marks-more (args .old .now) (args .new .now) (args .fell) (c .moves .result) (inner .before .loop .inv .1) (omega arith) (c .moves .ensures))
 
 same-length : tie.Need-same-length Inv-loop μ-loop
 same-length c = c .before .loop .inv .1 .size ∙ sym (c .before .before .before .before .before .pre .2)
@@ -64,7 +64,7 @@ returns : tie.Need-returns Inv-loop μ-loop
 returns c =
     let args = c .before .before .before .before .before .args in
     let whole : c .before .loop .a ≡ 64 = omega arith in
-    subst (λ (a : ℕ). RowsMarked (args .old .now) (args .new .now) (args .same) a (c .before .loop .marks)) whole (c .before .loop .inv .1)
+    subst (λ (a : ℕ). RowsMarked (args .old .now) (args .new .now) (args .fell) a (c .before .loop .marks)) whole (c .before .loop .inv .1)
 
 pub mark-rows-spec : {M : Type 1} → statement M
 mark-rows-spec =

@@ -24,7 +24,7 @@ unfolding edgesOf
 loop-holds c =
     let args = c .before .before .before .before .before .before .before .before .before .before .args in
     let asked = c .before .before .before .before .before .before .before .before .before .before .pre in
-    (omega arith, changed-none (args .source .now) (args .sink .now) (args .delay .now) (args .tasks) (args .from .now) (args .to .now) (args .next-from .now) (args .next-to .now) (λ e. not (subsumesBy (args .from .now) (args .to .now) (args .a) (args .b) e)) (length (args .source .now)) (asked .1 .1 .1 .1 .1), refl)
+    (omega arith, changed-none (args .source .now) (args .sink .now) (args .delay .now) (args .tasks) (args .from .now) (args .to .now) (args .next-from .now) (args .next-to .now) (λ e. not (subsumesBy (args .from .now) (args .to .now) (args .a) (args .b) e)) (length (args .source .now)) (asked .1 .1 .1 .1 .1 .1), refl)
 
 shared-slice-read-shift-one : tie.Need-shared-slice-read-shift-one Inv-loop μ-loop
 shared-slice-read-shift-one c = omega (arith, c .before .before .before .before .before .before .before .before .before .before .before .before .before .pre .0)
@@ -42,7 +42,7 @@ shift-one-requires c κs =
     let asked = c .before .before .before .before .before .before .before .before .before .before .before .before .before .before .before .before .pre in
     let loop = c .before .before .before .before .before .loop in
     let below = c .before .before .before .before .loop-test .taken in
-    let few = asked .1 .1 .1 .1 .0 in
+    let few = asked .1 .1 .1 .1 .1 .0 in
     let ends = few .3 (heldEdge (args .source .now) (args .sink .now) (args .delay .now) (loop .j)) (edge-in (args .source .now) (args .sink .now) (args .delay .now) (loop .j) below) in (
       asked .1 .0,
       (
@@ -50,8 +50,11 @@ shift-one-requires c κs =
         (
           asked .1 .1 .1 .0,
           (
-            (few .0, few .1, few .2, ends .0, ends .1, loop .inv .1 .size),
-            changed-covered (args .source .now) (args .sink .now) (args .delay .now) (args .tasks) (args .from .now) (args .to .now) (args .next-from .now) (args .next-to .now) (λ e. not (subsumesBy (args .from .now) (args .to .now) (args .a) (args .b) e)) (length (args .source .now)) (loop .inv .1) (asked .0 .2) below,
+            asked .1 .1 .1 .1 .0,
+            (
+              (few .0, few .1, few .2, ends .0, ends .1, loop .inv .1 .size),
+              changed-covered (args .source .now) (args .sink .now) (args .delay .now) (args .tasks) (args .from .now) (args .to .now) (args .next-from .now) (args .next-to .now) (λ e. not (subsumesBy (args .from .now) (args .to .now) (args .a) (args .b) e)) (length (args .source .now)) (loop .inv .1) (asked .0 .2) below,
+            ),
           ),
         ),
       ),
@@ -78,12 +81,12 @@ count-edge-requires c κs =
     let args = c .before .before .before .before .before .before .before .before .before .before .before .before .before .args in
     let asked = c .before .before .before .before .before .before .before .before .before .before .before .before .before .pre in
     let loop = c .before .before .loop in
-    let few = asked .1 .1 .1 .1 .0 in
+    let few = asked .1 .1 .1 .1 .1 .0 in
     let whole : loop .j ≡ length (args .source .now) = omega arith in
     let done = subst (λ (j : ℕ). Changed (args .source .now) (args .sink .now) (args .delay .now) (args .tasks) (args .from .now) (args .to .now) (args .next-from .now) (args .next-to .now) (λ e. not (subsumesBy (args .from .now) (args .to .now) (args .a) (args .b) e)) (length (args .source .now)) j (loop .counts)) whole (loop .inv .1) in (
       (asked .1 .0 .2, asked .1 .0 .3, loop .inv .1 .size),
       (
-        (few .0, few .1, few .2),
+        (few .0, few .1, few .2, omega arith, asked .1 .1 .1 .1 .0 .1),
         all-covered (args .source .now) (args .sink .now) (args .delay .now) (args .tasks) (args .from .now) (args .to .now) (args .next-from .now) (args .next-to .now) (λ e. not (subsumesBy (args .from .now) (args .to .now) (args .a) (args .b) e)) (length (args .source .now)) done (asked .0 .2) _ _,
       ),
     )

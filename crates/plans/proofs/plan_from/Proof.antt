@@ -46,13 +46,13 @@ start-requires : tie.Need-start-requires
 start-requires c κs =
     let given = (c .before .before .before .before .before .before .before .before .before .before .before .before .before .before .before .before .before .before .before .before .before .before .before .pre .1 .1 .1 .1 .1) in (
       lent-lists given,
-      ((_, given .graph, as-many given, lent-is given, (given .past, given .table-is)), ((c .before .before .before .before .before .before .before .before .before .before .before .before .before .before .before .before .before .before .before .before .before .before .before .pre .1 .0), (c .before .before .before .before .before .before .before .before .before .before .before .before .before .before .before .before .before .before .before .before .before .before .before .pre .1 .1 .1 .0))),
+      ((_, given .lent .graph, as-many given, lent-is given, (given .past, given .table-is)), ((c .before .before .before .before .before .before .before .before .before .before .before .before .before .before .before .before .before .before .before .before .before .before .before .pre .1 .0), (c .before .before .before .before .before .before .before .before .before .before .before .before .before .before .before .before .before .before .before .before .before .before .before .pre .1 .1 .1 .0))),
     )
 
 has-pair-requires : tie.Need-has-pair-requires
 has-pair-requires c κs =
     let given = (c .before .before .before .before .before .before .before .before .before .before .before .before .before .before .before .before .before .before .before .before .before .before .before .before .before .before .before .before .before .before .before .before .before .before .pre .1 .1 .1 .1 .1) in
-    let ready = (c .before .before .before .before .before .before .before .before .before .before .start .ensures) _ (given .graph) (as-many given) (lent-is given) (given .past) (given .table-is) in
+    let ready = (c .before .before .before .before .before .before .before .before .before .before .start .ensures) _ (given .lent .graph) (as-many given) (lent-is given) (given .past) (given .table-is) in
     (few given, omega (arith, ready .counts-are .size, as-many given), omega (arith, ready .to-size, as-many given))
 
 same-length : tie.Need-same-length
@@ -78,7 +78,7 @@ same-length-7 c = search needs
 
 returns : tie.Need-returns
 returns c = λ g given.
-    let ready = (c .before .before .before .before .before .before .before .before .before .before .before .before .start .ensures) _ (given .graph) (as-many given) (lent-is given) (given .past) (given .table-is) in
+    let ready = (c .before .before .before .before .before .before .before .before .before .before .before .before .start .ensures) _ (given .lent .graph) (as-many given) (lent-is given) (given .past) (given .table-is) in
     none-followed given ready ((c .before .has-pair .ensures) (refused _ ((c .if1 .taken))))
 
 slice-aggregate-first-times : tie.Need-slice-aggregate-first-times
@@ -114,7 +114,7 @@ first-times-requires c κs =
       ((c .before .before .before .before .before .before .before .before .before .before .before .before .before .before .before .before .before .before .before .before .before .before .before .before .before .before .before .before .before .before .before .before .before .before .before .before .before .before .before .before .before .pre .0 .0), (c .before .before .before .before .before .before .before .before .before .before .before .before .before .before .before .before .before .before .before .before .before .before .before .before .before .before .before .before .before .before .before .before .before .before .before .before .before .before .before .before .before .pre .0 .1), omega (arith, graph-few given)),
       (
         (refl, refl, refl),
-        ((row-lent given (replicate 64 0) refl, row-lent given (replicate 64 0) refl), (_, given .graph, given .clocked, given .edges-are)),
+        ((row-lent given (replicate 64 0) refl, row-lent given (replicate 64 0) refl), (_, given .lent .graph, given .lent .clocked, given .lent .edges-are)),
       ),
     )
 
@@ -136,7 +136,7 @@ part-end-start-2 c = search needs
 part-end-end-2 : tie.Need-part-end-end-2
 part-end-end-2 c =
     let given = (c .before .before .before .before .before .before .before .before .before .before .before .before .before .before .before .before .before .before .before .before .before .before .before .before .before .before .before .before .before .before .before .before .before .before .before .before .before .before .before .before .before .before .before .before .before .before .before .before .before .before .before .before .before .before .before .before .before .before .pre .1 .1 .1 .1 .1) in
-    let timed = (c .before .before .before .before .before .before .before .before .before .before .before .before .before .before .before .before .first-times .ensures .1) _ (given .graph) (given .clocked) (given .edges-are) in
+    let timed = (c .before .before .before .before .before .before .before .before .before .before .before .before .before .before .before .before .first-times .ensures .1) _ (given .lent .graph) (given .lent .clocked) (given .lent .edges-are) in
     row-kept given ((c .before .before .before .before .before .before .before .before .before .before .before .before .before .before .before .before .first-times .last .1 .1 .1 .1 .1 .1 .1 .1 .1 .0)) _ (timed-sizes timed .0)
 
 sub-follow-steps-2 : tie.Need-sub-follow-steps-2
@@ -148,16 +148,16 @@ part-latest-start-2 c = search needs
 part-latest-end-2 : tie.Need-part-latest-end-2
 part-latest-end-2 c =
     let given = (c .before .before .before .before .before .before .before .before .before .before .before .before .before .before .before .before .before .before .before .before .before .before .before .before .before .before .before .before .before .before .before .before .before .before .before .before .before .before .before .before .before .before .before .before .before .before .before .before .before .before .before .before .before .before .before .before .before .before .before .pre .1 .1 .1 .1 .1) in
-    let timed = (c .before .before .before .before .before .before .before .before .before .before .before .before .before .before .before .before .before .first-times .ensures .1) _ (given .graph) (given .clocked) (given .edges-are) in
+    let timed = (c .before .before .before .before .before .before .before .before .before .before .before .before .before .before .before .before .before .first-times .ensures .1) _ (given .lent .graph) (given .lent .clocked) (given .lent .edges-are) in
     row-kept given ((c .before .before .before .before .before .before .before .before .before .before .before .before .before .before .before .before .before .first-times .last .1 .1 .1 .1 .1 .1 .1 .1 .1 .1 .0)) _ (timed-sizes timed .1)
 
 follow-steps-requires : tie.Need-follow-steps-requires
 follow-steps-requires c κs =
     let given = (c .before .before .before .before .before .before .before .before .before .before .before .before .before .before .before .before .before .before .before .before .before .before .before .before .before .before .before .before .before .before .before .before .before .before .before .before .before .before .before .before .before .before .before .before .before .before .before .before .before .before .before .before .before .before .before .before .before .before .before .before .pre .1 .1 .1 .1 .1) in
     let zeros = (c .before .before .before .before .before .before .before .before .before .before .before .before .before .before .before .before .before .before .before .before .before .before .before .before .before .before .before .before .before .before .before .before .before .before .before .before .before .before .before .before .before .before .before .before .before .before .before .before .before .before .before .before .before .before .before .before .before .before .before .before .pre .1 .1 .1 .0) in
-    let ready = (c .before .before .before .before .before .before .before .before .before .before .before .before .before .before .before .before .before .before .before .before .before .before .before .before .before .before .before .before .before .before .before .before .before .before .before .before .start .ensures) _ (given .graph) (as-many given) (lent-is given) (given .past) (given .table-is) in
-    let timed = (c .before .before .before .before .before .before .before .before .before .before .before .before .before .before .before .before .before .before .first-times .ensures .1) _ (given .graph) (given .clocked) (given .edges-are) in
-    let ordered = (c .before .before .before .before .before .before .before .before .before .before .before .before .before .before .before .before .before .before .first-times .ensures .0) _ (given .graph) (given .edges-are) in (
+    let ready = (c .before .before .before .before .before .before .before .before .before .before .before .before .before .before .before .before .before .before .before .before .before .before .before .before .before .before .before .before .before .before .before .before .before .before .before .before .start .ensures) _ (given .lent .graph) (as-many given) (lent-is given) (given .past) (given .table-is) in
+    let timed = (c .before .before .before .before .before .before .before .before .before .before .before .before .before .before .before .before .before .before .first-times .ensures .1) _ (given .lent .graph) (given .lent .clocked) (given .lent .edges-are) in
+    let ordered = (c .before .before .before .before .before .before .before .before .before .before .before .before .before .before .before .before .before .before .first-times .ensures .0) _ (given .lent .graph) (given .lent .edges-are) in (
       graph-few given,
       ((c .before .before .before .before .before .before .before .before .before .before .before .before .before .before .before .before .before .before .before .before .before .before .before .before .before .before .before .before .before .before .before .before .before .before .before .before .before .before .before .before .before .before .before .before .before .before .before .before .before .before .before .before .before .before .before .before .before .before .before .before .pre .1 .1 .0), (_, begun given ((c .before .before .before .before .before .before .before .before .before .before .before .before .before .before .before .before .before .before .first-times .last .1 .1 .1 .1 .1 .1 .1 .1 .1 .0)) ((c .before .before .before .before .before .before .before .before .before .before .before .before .before .before .before .before .before .before .first-times .last .1 .1 .1 .1 .1 .1 .1 .1 .1 .1 .0)) _ _ ready ordered timed)),
     )
@@ -191,9 +191,9 @@ same-length-16 c = (c .before .before .before .before .before .before .before .b
 
 returns-2 : tie.Need-returns-2
 returns-2 c = λ g given.
-    let ready = (c .before .before .before .before .before .before .before .before .before .before .before .before .before .before .before .before .before .before .before .before .before .before .before .before .before .before .before .before .before .before .before .before .before .before .before .before .before .before .before .before .before .before .before .before .before .before .before .before .before .before .before .before .before .before .before .before .before .before .start .ensures) _ (given .graph) (as-many given) (lent-is given) (given .past) (given .table-is) in
-    let timed = (c .before .before .before .before .before .before .before .before .before .before .before .before .before .before .before .before .before .before .before .before .before .before .before .before .before .before .before .before .before .before .before .before .before .before .before .before .before .before .before .before .first-times .ensures .1) _ (given .graph) (given .clocked) (given .edges-are) in
-    let ordered = (c .before .before .before .before .before .before .before .before .before .before .before .before .before .before .before .before .before .before .before .before .before .before .before .before .before .before .before .before .before .before .before .before .before .before .before .before .before .before .before .before .first-times .ensures .0) _ (given .graph) (given .edges-are) in
+    let ready = (c .before .before .before .before .before .before .before .before .before .before .before .before .before .before .before .before .before .before .before .before .before .before .before .before .before .before .before .before .before .before .before .before .before .before .before .before .before .before .before .before .before .before .before .before .before .before .before .before .before .before .before .before .before .before .before .before .before .before .start .ensures) _ (given .lent .graph) (as-many given) (lent-is given) (given .past) (given .table-is) in
+    let timed = (c .before .before .before .before .before .before .before .before .before .before .before .before .before .before .before .before .before .before .before .before .before .before .before .before .before .before .before .before .before .before .before .before .before .before .before .before .before .before .before .before .first-times .ensures .1) _ (given .lent .graph) (given .lent .clocked) (given .lent .edges-are) in
+    let ordered = (c .before .before .before .before .before .before .before .before .before .before .before .before .before .before .before .before .before .before .before .before .before .before .before .before .before .before .before .before .before .before .before .before .before .before .before .before .before .before .before .before .first-times .ensures .0) _ (given .lent .graph) (given .lent .edges-are) in
     (c .before .before .before .before .before .before .before .before .before .before .before .before .before .before .before .before .before .before .before .before .before .follow-steps .ensures) g (begun given ((c .before .before .before .before .before .before .before .before .before .before .before .before .before .before .before .before .before .before .before .before .before .before .before .before .before .before .before .before .before .before .before .before .before .before .before .before .before .before .before .before .first-times .last .1 .1 .1 .1 .1 .1 .1 .1 .1 .0)) ((c .before .before .before .before .before .before .before .before .before .before .before .before .before .before .before .before .before .before .before .before .before .before .before .before .before .before .before .before .before .before .before .before .before .before .before .before .before .before .before .before .first-times .last .1 .1 .1 .1 .1 .1 .1 .1 .1 .1 .0)) _ _ ready ordered timed)
 
 pub plan-from-spec : {M : Type 1} → statement M

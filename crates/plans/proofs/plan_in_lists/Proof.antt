@@ -1,4 +1,4 @@
--- `plans::plan_in_lists` meets its contract: lists of either size have room for all tasks, and are clear.
+-- `plans::plan_in_lists` meets its contract: lists of each size have room for all tasks, and are clear.
 use native.Mathlib.Omega.{arith}
 use Rattle.plans.proofs.Beginning.{blank-at, few}
 use borrow.Author.Needs.{needs}
@@ -26,7 +26,7 @@ plan-from-requires c κs =
       (c .before .before .before .before .before .before .before .before .before .before .before .before .before .before .before .before .before .before .pre .0),
       (
         (omega (arith, short), omega (arith, short), omega (arith, short)),
-        ((omega (arith, short), omega (arith, short)), ((blank-at 1024, blank-at 1024, blank-at 1024), (c .before .before .before .before .before .before .before .before .before .before .before .before .before .before .before .before .before .before .pre .1))),
+        ((omega (arith, short), omega (arith, short)), ((blank-at 512, blank-at 512, blank-at 512), (c .before .before .before .before .before .before .before .before .before .before .before .before .before .before .before .before .before .before .pre .1))),
       ),
     )
 
@@ -62,11 +62,11 @@ slice-aggregate-plan-from-10 c = search needs
 
 plan-from-requires-2 : tie.Need-plan-from-requires-2
 plan-from-requires-2 c κs =
-    let most = few ((c .before .before .before .before .before .before .before .before .before .before .before .before .before .before .before .before .before .before .pre .1 .1)) in (
-      (c .before .before .before .before .before .before .before .before .before .before .before .before .before .before .before .before .before .before .pre .0),
+    let short = (c .before .before .before .before .before .before .before .before .before .if2 .taken) in (
+      (c .before .before .before .before .before .before .before .before .before .before .before .before .before .before .before .before .before .before .before .pre .0),
       (
-        (omega (arith, most), omega (arith, most), omega (arith, most)),
-        ((omega (arith, most), omega (arith, most)), ((blank-at 4096, blank-at 4096, blank-at 4096), (c .before .before .before .before .before .before .before .before .before .before .before .before .before .before .before .before .before .before .pre .1))),
+        (omega (arith, short), omega (arith, short), omega (arith, short)),
+        ((omega (arith, short), omega (arith, short)), ((blank-at 1024, blank-at 1024, blank-at 1024), (c .before .before .before .before .before .before .before .before .before .before .before .before .before .before .before .before .before .before .before .pre .1))),
       ),
     )
 
@@ -84,6 +84,46 @@ same-length-8 c = search needs
 
 returns-2 : tie.Need-returns-2
 returns-2 c = search needs
+
+slice-aggregate-plan-from-11 : tie.Need-slice-aggregate-plan-from-11
+slice-aggregate-plan-from-11 c = search needs
+
+slice-aggregate-plan-from-12 : tie.Need-slice-aggregate-plan-from-12
+slice-aggregate-plan-from-12 c = search needs
+
+slice-aggregate-plan-from-13 : tie.Need-slice-aggregate-plan-from-13
+slice-aggregate-plan-from-13 c = search needs
+
+slice-aggregate-plan-from-14 : tie.Need-slice-aggregate-plan-from-14
+slice-aggregate-plan-from-14 c = search needs
+
+slice-aggregate-plan-from-15 : tie.Need-slice-aggregate-plan-from-15
+slice-aggregate-plan-from-15 c = search needs
+
+plan-from-requires-3 : tie.Need-plan-from-requires-3
+plan-from-requires-3 c κs =
+    let most = few ((c .before .before .before .before .before .before .before .before .before .before .before .before .before .before .before .before .before .before .before .pre .1 .1)) in (
+      (c .before .before .before .before .before .before .before .before .before .before .before .before .before .before .before .before .before .before .before .pre .0),
+      (
+        (omega (arith, most), omega (arith, most), omega (arith, most)),
+        ((omega (arith, most), omega (arith, most)), ((blank-at 4096, blank-at 4096, blank-at 4096), (c .before .before .before .before .before .before .before .before .before .before .before .before .before .before .before .before .before .before .before .pre .1))),
+      ),
+    )
+
+same-length-9 : tie.Need-same-length-9
+same-length-9 c = search needs
+
+same-length-10 : tie.Need-same-length-10
+same-length-10 c = search needs
+
+same-length-11 : tie.Need-same-length-11
+same-length-11 c = search needs
+
+same-length-12 : tie.Need-same-length-12
+same-length-12 c = search needs
+
+returns-3 : tie.Need-returns-3
+returns-3 c = search needs
 
 pub plan-in-lists-spec : {M : Type 1} → statement M
 plan-in-lists-spec =
@@ -110,4 +150,15 @@ plan-in-lists-spec =
     same-length-6
     same-length-7
     same-length-8
-    returns-2)
+    returns-2
+    slice-aggregate-plan-from-11
+    slice-aggregate-plan-from-12
+    slice-aggregate-plan-from-13
+    slice-aggregate-plan-from-14
+    slice-aggregate-plan-from-15
+    plan-from-requires-3
+    same-length-9
+    same-length-10
+    same-length-11
+    same-length-12
+    returns-3)

@@ -9,7 +9,19 @@ slice-aggregate-plan-by : tie.Need-slice-aggregate-plan-by
 slice-aggregate-plan-by c = search needs
 
 plan-by-requires : tie.Need-plan-by-requires
-plan-by-requires c κs = ((c .before .before .before .pre), mul-le-mul ((c .before .if1 .taken)) ((c .before .if1 .taken)))
+plan-by-requires c κs =
+    let asked = c .before .before .before .before .before .before .before .before .before .before .before .before .before .pre in
+    let few = c .before .before .before .before .if1 .taken in
+    (asked .0, (asked .1 .0, ((asked .1 .1 .0, mul-le-mul few few), asked .1 .1 .1)))
+
+same-length : tie.Need-same-length
+same-length c = search needs
+
+same-length-2 : tie.Need-same-length-2
+same-length-2 c = search needs
+
+same-length-3 : tie.Need-same-length-3
+same-length-3 c = search needs
 
 returns : tie.Need-returns
 returns c = search needs
@@ -18,7 +30,19 @@ slice-aggregate-plan-by-2 : tie.Need-slice-aggregate-plan-by-2
 slice-aggregate-plan-by-2 c = search needs
 
 plan-by-requires-2 : tie.Need-plan-by-requires-2
-plan-by-requires-2 c κs = ((c .before .before .before .pre), mul-le-mul (few-tasks ((c .before .before .before .pre .1))) (few-tasks ((c .before .before .before .pre .1))))
+plan-by-requires-2 c κs =
+    let asked = c .before .before .before .before .before .before .before .before .before .before .before .before .before .pre in
+    let few = few-tasks (asked .1 .0 .1) in
+    (asked .0, (asked .1 .0, ((asked .1 .1 .0, mul-le-mul few few), asked .1 .1 .1)))
+
+same-length-4 : tie.Need-same-length-4
+same-length-4 c = search needs
+
+same-length-5 : tie.Need-same-length-5
+same-length-5 c = search needs
+
+same-length-6 : tie.Need-same-length-6
+same-length-6 c = search needs
 
 returns-2 : tie.Need-returns-2
 returns-2 c = search needs
@@ -29,7 +53,13 @@ planned-spec =
     (tie.spec
     slice-aggregate-plan-by
     plan-by-requires
+    same-length
+    same-length-2
+    same-length-3
     returns
     slice-aggregate-plan-by-2
     plan-by-requires-2
+    same-length-4
+    same-length-5
+    same-length-6
     returns-2)

@@ -79,13 +79,13 @@ count-edges-requires c κs =
     let given = start .pre .1 .0 in
     let args = start .args in
     let few = stage-few (given .1) (given .2) (args .source .now) (args .sink .now) (args .delay .now) (given .3) in
-    let by-source = c .before .before .before .before .before .before .before .before .before .before .before .spread .ensures .size in
-    let by-sink = c .before .before .before .before .before .spread2 .ensures .size in
+    let by-source = c .before .before .before .before .before .before .before .before .before .before .before .spread .ensures in
+    let by-sink = c .before .before .before .before .before .spread2 .ensures in
     let ends = stage-ends (given .1) (given .2) (args .source .now) (args .sink .now) (args .delay .now) (given .3) in (
       (start .pre .0 .0, start .pre .0 .1, few),
       (
-        (omega (arith, by-source, by-sink), omega (arith, by-source, by-sink), start .pre .1 .1 .0 .2),
-        ((few-tasks (given .1) (given .2), ends), start .pre .1 .1 .1 .2),
+        (by-source .size, by-sink .size, start .pre .1 .1 .0 .2),
+        ((few-tasks (given .1) (given .2), ends), (λ i l. by-sink .small i, start .pre .1 .1 .1 .2)),
       ),
     )
 

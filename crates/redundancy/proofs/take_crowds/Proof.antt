@@ -83,7 +83,7 @@ same-length c =
 same-length-2 : tie.Need-same-length-2 Inv-loop μ-loop
 same-length-2 c =
     let asked = c .before .before .before .before .before .before .before .before .before .before .before .pre .0 in
-    c .before .loop .inv .2 .size ∙ sym (ap length (asked .2) ∙ length-replicate {A = ℕ} 832 32767)
+    c .before .loop .inv .2 .size ∙ sym (ap length (asked .2) ∙ length-replicate {A = ℕ} 832 16383)
 
 returns : tie.Need-returns Inv-loop μ-loop
 returns c = c .before .loop .inv .2 .crowds

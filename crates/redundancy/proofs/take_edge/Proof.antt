@@ -157,7 +157,7 @@ loop-again c =
     let loop = c .before .before .before .before .before .before .before .before .before .loop in
     let room = places (c .before .before .before .before .before .before .before .before) in
     let b = loop .b in
-    let sum = args .way + min (getD (args .table .now) (args .next * args .tasks + b) 0) 32767 in
+    let sum = args .way + min (getD (args .table .now) (args .next * args .tasks + b) 0) 16383 in
     let sum-is : args .way + c .before .before .before .before .before .before .lesser .result ≡ sum =
     ap (λ (x : ℕ). args .way + x) (c .before .before .before .before .before .before .lesser .ensures) in
     let least-is : getD (loop .least) b 0 ≡ getD (args .least .now) b 0 = part-next (loop .inv .1) b (omega arith) in

@@ -19,7 +19,9 @@ use Rattle.schedule.proofs.check_schedule.Statement.{statement}
 use Rattle.schedule.proofs.check_schedule.Tie as tie
 
 check-in-order-requires : tie.Need-check-in-order-requires
-check-in-order-requires c κs = c .before .before .before .before .before .pre
+check-in-order-requires c κs =
+    let asked = c .before .before .before .before .before .before .pre in
+    (asked .0, ((asked .1 .0 .0, asked .1 .0 .1), asked .1 .1))
 
 returns : tie.Need-returns
 returns c = c .check-in-order .ensures
@@ -35,19 +37,19 @@ part-start-start c = search needs
 
 part-start-end : tie.Need-part-start-end
 unfolding zeros
-part-start-end c = front-room 64 0 (c .before .blank-row .ensures .0) (c .before .before .before .before .before .before .before .pre .1 .0 .0)
+part-start-end c = front-room 64 0 (c .before .blank-row .ensures .0) (c .before .before .before .before .before .before .before .before .pre .1 .0 .0)
 
 first-turn-requires : tie.Need-first-turn-requires
 unfolding zeros
 first-turn-requires c κs =
-    let args = c .before .before .before .before .before .before .before .before .args in
-    let pre = c .before .before .before .before .before .before .before .before .pre in
+    let args = c .before .before .before .before .before .before .before .before .before .before .args in
+    let pre = c .before .before .before .before .before .before .before .before .before .before .pre in
     let es = edgesOf (args .source .now) (args .sink .now) (args .delay .now) in
-    let blank = c .before .before .blank-row .ensures .0 in
+    let blank = c .before .before .before .blank-row .ensures .0 in
     let same = sym (front-length 64 0 blank (pre .1 .0 .0)) in (
       pre .0,
       (
-        (same, subst (λ (m : ℕ). m ≤ 64) same (pre .1 .0 .0), subst (λ (m : ℕ). args .input < m) same (omega (arith, c .before .before .before .if1 .left))),
+        (same, subst (λ (m : ℕ). m ≤ 64) same (pre .1 .0 .0), subst (λ (m : ℕ). args .input < m) same (omega (arith, c .before .before .before .before .if1 .left)), pre .1 .0 .2),
         (
           subst (λ (m : ℕ). Ends m es) same (pre .1 .1 .0 .ends),
           λ v l. front-at 64 0 blank (pre .1 .0 .0) v (subst (λ (m : ℕ). v < m) (sym same) l),
@@ -56,45 +58,56 @@ first-turn-requires c κs =
     )
 
 check-in-order-requires-2 : tie.Need-check-in-order-requires-2
-check-in-order-requires-2 c κs = c .before .before .before .before .before .before .before .before .before .before .before .before .pre
+check-in-order-requires-2 c κs =
+    let asked = c .before .before .before .before .before .before .before .before .before .before .before .before .before .before .before .before .pre in
+    (asked .0, ((asked .1 .0 .0, asked .1 .0 .1), asked .1 .1))
+
+same-length : tie.Need-same-length
+same-length c = c .before .before .before .before .before .before .first-turn .kept .1 .1 .1 .1 .1 .1 .0
 
 returns-2 : tie.Need-returns-2
 returns-2 c = c .check-in-order2 .ensures
 
+same-length-2 : tie.Need-same-length-2
+same-length-2 c = c .before .before .before .before .before .before .before .first-turn .kept .1 .1 .1 .1 .1 .1 .0
+
 returns-3 : tie.Need-returns-3
 unfolding zeros
 returns-3 c =
-    let args = c .before .before .before .before .before .before .before .before .before .before .before .before .before .before .args in
-    let pre = c .before .before .before .before .before .before .before .before .before .before .before .before .before .before .pre in
+    let args = c .before .before .before .before .before .before .before .before .before .before .before .before .before .before .before .before .before .before .args in
+    let pre = c .before .before .before .before .before .before .before .before .before .before .before .before .before .before .before .before .before .before .pre in
     let es = edgesOf (args .source .now) (args .sink .now) (args .delay .now) in
     let n = length (args .time .now) in
     let time = at (args .time .now) in
-    let blank = c .before .before .before .before .before .before .before .before .blank-row .ensures .0 in
+    let blank = c .before .before .before .before .before .before .before .before .before .before .before .blank-row .ensures .0 in
     let long = front-length 64 0 blank (pre .1 .0 .0) in
     let times : (v : ℕ) → v < n → 1 ≤ time v = λ v l. pre .1 .1 .1 v l .0 in
-    let said = c .before .before .before .before .before .first-turn .ensures in
-    let row = c .before .before .before .before .before .first-turn .last .1 .1 .1 .1 .1 .0 in
+    let said = c .before .before .before .before .before .before .before .first-turn .ensures in
+    let row = c .before .before .before .before .before .before .before .first-turn .last .1 .1 .1 .1 .1 .0 in
     let turned = turn-sized long (said .1 .0 (not-false _ (c .before .before .if2 .left))) in
     let acyclic = turn-acyclic (pre .1 .1 .0 .ends) times turned in
     let free = sym (said .1 .1) in
     (sym (stops-10 n es time (args .input) (args .output) (args .bound) acyclic (free ∙ not-true _ (c .if3 .taken))), sym (if-refused 10 (latency n es time (args .output)) 0 (λ z. omega arith)))
 
 is-reached-requires : tie.Need-is-reached-requires
-is-reached-requires c κs = omega (arith, c .before .before .before .before .before .before .before .before .before .before .before .before .before .before .pre .1 .0 .0, c .before .before .before .before .before .before .before .before .before .before .before .before .before .before .pre .1 .0 .1)
+is-reached-requires c κs = omega (arith, c .before .before .before .before .before .before .before .before .before .before .before .before .before .before .before .before .before .before .pre .1 .0 .0, c .before .before .before .before .before .before .before .before .before .before .before .before .before .before .before .before .before .before .pre .1 .0 .1)
+
+same-length-3 : tie.Need-same-length-3
+same-length-3 c = c .before .before .before .before .before .before .before .before .before .first-turn .kept .1 .1 .1 .1 .1 .1 .0
 
 returns-4 : tie.Need-returns-4
 unfolding zeros
 returns-4 c =
-    let args = c .before .before .before .before .before .before .before .before .before .before .before .before .before .before .before .before .args in
-    let pre = c .before .before .before .before .before .before .before .before .before .before .before .before .before .before .before .before .pre in
+    let args = c .before .before .before .before .before .before .before .before .before .before .before .before .before .before .before .before .before .before .before .before .args in
+    let pre = c .before .before .before .before .before .before .before .before .before .before .before .before .before .before .before .before .before .before .before .before .pre in
     let es = edgesOf (args .source .now) (args .sink .now) (args .delay .now) in
     let n = length (args .time .now) in
     let time = at (args .time .now) in
-    let blank = c .before .before .before .before .before .before .before .before .before .before .blank-row .ensures .0 in
+    let blank = c .before .before .before .before .before .before .before .before .before .before .before .before .before .blank-row .ensures .0 in
     let long = front-length 64 0 blank (pre .1 .0 .0) in
     let times : (v : ℕ) → v < n → 1 ≤ time v = λ v l. pre .1 .1 .1 v l .0 in
-    let said = c .before .before .before .before .before .before .before .first-turn .ensures in
-    let row = c .before .before .before .before .before .before .before .first-turn .last .1 .1 .1 .1 .1 .0 in
+    let said = c .before .before .before .before .before .before .before .before .before .first-turn .ensures in
+    let row = c .before .before .before .before .before .before .before .before .before .first-turn .last .1 .1 .1 .1 .1 .0 in
     let turned = turn-sized long (said .1 .0 (not-false _ (c .before .before .before .before .if2 .left))) in
     let acyclic = turn-acyclic (pre .1 .1 .0 .ends) times turned in
     let free = sym (said .1 .1) in
@@ -118,48 +131,54 @@ cast-latency c = fits-widen tt (c .shared-slice-known5 .given _)
 add-latency : tie.Need-add-latency
 unfolding zeros at
 add-latency c =
-    let args = c .before .before .before .before .before .before .before .before .before .before .before .before .before .before .before .before .before .args in
-    let pre = c .before .before .before .before .before .before .before .before .before .before .before .before .before .before .before .before .before .pre in
-    let blank = c .before .before .before .before .before .before .before .before .before .before .before .blank-row .ensures .0 in
+    let args = c .before .before .before .before .before .before .before .before .before .before .before .before .before .before .before .before .before .before .before .before .before .args in
+    let pre = c .before .before .before .before .before .before .before .before .before .before .before .before .before .before .before .before .before .before .before .before .before .pre in
+    let blank = c .before .before .before .before .before .before .before .before .before .before .before .before .before .before .blank-row .ensures .0 in
     let long = front-length 64 0 blank (pre .1 .0 .0) in
-    let said = c .before .before .before .before .before .before .before .before .first-turn .ensures in
-    let row = c .before .before .before .before .before .before .before .before .first-turn .last .1 .1 .1 .1 .1 .0 in
+    let said = c .before .before .before .before .before .before .before .before .before .before .first-turn .ensures in
+    let row = c .before .before .before .before .before .before .before .before .before .before .first-turn .last .1 .1 .1 .1 .1 .0 in
     let turned = turn-sized long (said .1 .0 (not-false _ (c .before .before .before .before .before .if2 .left))) in
     let low = turned .low (args .output) (pre .1 .0 .1) in
     end-as-u32 (subst (λ (x : ℕ). x ≤ 268435456) (sym (front-start row _ (said .0 ∙ long) (args .output) (pre .1 .0 .1))) (omega (arith, low, pre .1 .0 .0))) (c .shared-slice-known5 .given _)
 
+same-length-4 : tie.Need-same-length-4
+same-length-4 c = c .before .before .before .before .before .before .before .before .before .before .before .first-turn .kept .1 .1 .1 .1 .1 .1 .0
+
 returns-5 : tie.Need-returns-5
 unfolding zeros at
 returns-5 c =
-    let args = c .before .before .before .before .before .before .before .before .before .before .before .before .before .before .before .before .before .before .args in
-    let pre = c .before .before .before .before .before .before .before .before .before .before .before .before .before .before .before .before .before .before .pre in
+    let args = c .before .before .before .before .before .before .before .before .before .before .before .before .before .before .before .before .before .before .before .before .before .before .args in
+    let pre = c .before .before .before .before .before .before .before .before .before .before .before .before .before .before .before .before .before .before .before .before .before .before .pre in
     let es = edgesOf (args .source .now) (args .sink .now) (args .delay .now) in
     let n = length (args .time .now) in
     let time = at (args .time .now) in
-    let blank = c .before .before .before .before .before .before .before .before .before .before .before .before .blank-row .ensures .0 in
+    let blank = c .before .before .before .before .before .before .before .before .before .before .before .before .before .before .before .blank-row .ensures .0 in
     let long = front-length 64 0 blank (pre .1 .0 .0) in
     let times : (v : ℕ) → v < n → 1 ≤ time v = λ v l. pre .1 .1 .1 v l .0 in
-    let said = c .before .before .before .before .before .before .before .before .before .first-turn .ensures in
-    let row = c .before .before .before .before .before .before .before .before .before .first-turn .last .1 .1 .1 .1 .1 .0 in
+    let said = c .before .before .before .before .before .before .before .before .before .before .before .first-turn .ensures in
+    let row = c .before .before .before .before .before .before .before .before .before .before .before .first-turn .last .1 .1 .1 .1 .1 .0 in
     let turned = turn-sized long (said .1 .0 (not-false _ (c .before .before .before .before .before .before .if2 .left))) in
     let acyclic = turn-acyclic (pre .1 .1 .0 .ends) times turned in
     let free = sym (said .1 .1) in
     let ended = turn-latency (pre .1 .1 .0 .ends) acyclic times turned (front-at 64 0 blank (pre .1 .0 .0)) (args .output) (pre .1 .0 .1) in
     (sym (stops-12 n es time (args .input) (args .output) (args .bound) acyclic (free ∙ not-false _ (c .before .before .before .before .if3 .left)) (sym (turn-joined (pre .1 .1 .0 .ends) times turned (args .output)) ∙ (sym (c .before .before .before .is-reached .ensures) ∙ not-false _ (c .before .before .if4 .left))) (below-same (c .if5 .taken) (ap (λ (x : ℕ). x + time (args .output)) (front-start row _ (said .0 ∙ long) (args .output) (pre .1 .0 .1)) ∙ ended))), sym (if-refused 12 (latency n es time (args .output)) 0 (λ z. omega arith)))
 
+same-length-5 : tie.Need-same-length-5
+same-length-5 c = c .before .before .before .before .before .before .before .before .before .before .before .first-turn .kept .1 .1 .1 .1 .1 .1 .0
+
 returns-6 : tie.Need-returns-6
 unfolding zeros at
 returns-6 c =
-    let args = c .before .before .before .before .before .before .before .before .before .before .before .before .before .before .before .before .before .before .args in
-    let pre = c .before .before .before .before .before .before .before .before .before .before .before .before .before .before .before .before .before .before .pre in
+    let args = c .before .before .before .before .before .before .before .before .before .before .before .before .before .before .before .before .before .before .before .before .before .before .args in
+    let pre = c .before .before .before .before .before .before .before .before .before .before .before .before .before .before .before .before .before .before .before .before .before .before .pre in
     let es = edgesOf (args .source .now) (args .sink .now) (args .delay .now) in
     let n = length (args .time .now) in
     let time = at (args .time .now) in
-    let blank = c .before .before .before .before .before .before .before .before .before .before .before .before .blank-row .ensures .0 in
+    let blank = c .before .before .before .before .before .before .before .before .before .before .before .before .before .before .before .blank-row .ensures .0 in
     let long = front-length 64 0 blank (pre .1 .0 .0) in
     let times : (v : ℕ) → v < n → 1 ≤ time v = λ v l. pre .1 .1 .1 v l .0 in
-    let said = c .before .before .before .before .before .before .before .before .before .first-turn .ensures in
-    let row = c .before .before .before .before .before .before .before .before .before .first-turn .last .1 .1 .1 .1 .1 .0 in
+    let said = c .before .before .before .before .before .before .before .before .before .before .before .first-turn .ensures in
+    let row = c .before .before .before .before .before .before .before .before .before .before .before .first-turn .last .1 .1 .1 .1 .1 .0 in
     let turned = turn-sized long (said .1 .0 (not-false _ (c .before .before .before .before .before .before .if2 .left))) in
     let acyclic = turn-acyclic (pre .1 .1 .0 .ends) times turned in
     let free = sym (said .1 .1) in
@@ -178,9 +197,12 @@ check-schedule-spec =
     part-start-end
     first-turn-requires
     check-in-order-requires-2
+    same-length
     returns-2
+    same-length-2
     returns-3
     is-reached-requires
+    same-length-3
     returns-4
     mul-latency
     array-read-latency
@@ -188,5 +210,7 @@ check-schedule-spec =
     shared-slice-read-latency
     cast-latency
     add-latency
+    same-length-4
     returns-5
+    same-length-5
     returns-6)

@@ -2,7 +2,6 @@
 use mathlib.Core.Path.{_≡_, _∙_}
 use Prim.Native.Nat.{_+_, _-_, _≤_, _<_, min}
 use native.Mathlib.Omega.{arith}
-use borrow.Author.Needs.{needs}
 use lib.ListN.{length, getD}
 use Rattle.sweeps.proofs.Parts.{PartDone, part-none, part-next, part-more, front-done}
 use Rattle.sweeps.proofs.lower_to.Statement.{statement}
@@ -19,26 +18,32 @@ loop-holds c =
     let start = c .before .before in
     (omega arith, part-none 0 (λ i. min (getD (start .args .row .now) i 0) (start .args .way + getD (start .args .table .now) (start .args .from + i) 0)) (start .args .row .now))
 
-add-lesser : tie.Need-add-lesser Inv-loop μ-loop
-add-lesser c = omega (arith, c .before .before .before .before .pre .0 .1, c .before .before .before .before .fits)
+add-nearer : tie.Need-add-nearer Inv-loop μ-loop
+add-nearer c = omega (arith, c .before .before .before .before .pre .0 .1, c .before .before .before .before .fits)
 
-mul-lesser : tie.Need-mul-lesser Inv-loop μ-loop
-mul-lesser c = omega (arith, c .before .before .before .before .pre .0 .1)
+mul-nearer : tie.Need-mul-nearer Inv-loop μ-loop
+mul-nearer c = omega (arith, c .before .before .before .before .pre .0 .1)
 
-shared-slice-read-lesser : tie.Need-shared-slice-read-lesser Inv-loop μ-loop
-shared-slice-read-lesser c = omega (arith, c .before .before .before .before .before .pre .0 .1)
+shared-slice-read-nearer : tie.Need-shared-slice-read-nearer Inv-loop μ-loop
+shared-slice-read-nearer c = omega (arith, c .before .before .before .before .before .pre .0 .1)
 
-add-lesser-2 : tie.Need-add-lesser-2 Inv-loop μ-loop
-add-lesser-2 c = omega (arith, c .before .before .before .before .before .pre .0 .0, c .before .before .before .before .before .pre .1 (c .before .before .loop .b) (c .before .loop-test .taken))
+add-nearer-2 : tie.Need-add-nearer-2 Inv-loop μ-loop
+add-nearer-2 c = omega (arith, c .before .before .before .before .before .pre .0 .0, c .before .before .before .before .before .pre .1 (c .before .before .loop .b) (c .before .loop-test .taken) .0)
 
-mul-lesser-2 : tie.Need-mul-lesser-2 Inv-loop μ-loop
-mul-lesser-2 c = omega (arith, c .before .before .loop .inv .1 .size, c .before .before .before .before .before .pre .0 .2)
+mul-nearer-2 : tie.Need-mul-nearer-2 Inv-loop μ-loop
+mul-nearer-2 c = omega (arith, c .before .before .loop .inv .1 .size, c .before .before .before .before .before .pre .0 .2)
 
-slice-read-lesser : tie.Need-slice-read-lesser Inv-loop μ-loop
-slice-read-lesser c = omega (arith, c .before .before .before .loop .inv .1 .size, c .before .before .before .before .before .before .pre .0 .2)
+slice-read-nearer : tie.Need-slice-read-nearer Inv-loop μ-loop
+slice-read-nearer c = omega (arith, c .before .before .before .loop .inv .1 .size, c .before .before .before .before .before .before .pre .0 .2)
 
-lesser-requires : tie.Need-lesser-requires Inv-loop μ-loop
-lesser-requires c κs = search needs
+nearer-requires : tie.Need-nearer-requires Inv-loop μ-loop
+nearer-requires c κs =
+    let start = c .before .before .before .before .before .before in
+    let inv = c .before .before .before .loop .inv in
+    let b = c .before .before .before .loop .b in
+    let place : b ≡ 0 + b = omega arith in
+    let low = start .pre .1 b (c .before .before .loop-test .taken) in
+    (omega (arith, start .pre .0 .0, low .0), omega (arith, low .1, part-next (inv .1) b place))
 
 mul-row : tie.Need-mul-row Inv-loop μ-loop
 mul-row c = omega (arith, c .before .before .before .before .loop .inv .1 .size, c .before .before .before .before .before .before .before .pre .0 .2)
@@ -59,9 +64,9 @@ loop-again c =
     let b = c .before .before .before .before .loop .b in
     let place : b ≡ 0 + b = omega arith in
     let inside : b < length (c .before .before .before .before .loop .row) = omega (arith, inv .1 .size, start .pre .0 .2) in
-    let entry : c .lesser .result ≡ min (getD (start .args .row .now) b 0) (start .args .way + getD (start .args .table .now) (start .args .from + b) 0) =
-    omega (arith, c .lesser .ensures, part-next (inv .1) b place) in
-    (omega arith, part-more (inv .1) b (c .lesser .result) place inside entry)
+    let entry : c .nearer .result ≡ min (getD (start .args .row .now) b 0) (start .args .way + getD (start .args .table .now) (start .args .from + b) 0) =
+    omega (arith, c .nearer .ensures, part-next (inv .1) b place) in
+    (omega arith, part-more (inv .1) b (c .nearer .result) place inside entry)
 
 same-length : tie.Need-same-length Inv-loop μ-loop
 same-length c = c .before .loop .inv .1 .size
@@ -78,13 +83,13 @@ lower-to-spec =
     Inv-loop
     μ-loop
     loop-holds
-    add-lesser
-    mul-lesser
-    shared-slice-read-lesser
-    add-lesser-2
-    mul-lesser-2
-    slice-read-lesser
-    lesser-requires
+    add-nearer
+    mul-nearer
+    shared-slice-read-nearer
+    add-nearer-2
+    mul-nearer-2
+    slice-read-nearer
+    nearer-requires
     mul-row
     slice-write-row
     add-b

@@ -74,7 +74,7 @@ lower-by-requires c κs =
     let start = c .before .before .before .before .before .before .before .before .before .before .before .before .before .before .before .before in
     let sound = start .pre .1 .1 .1 in
     let fit = fit-at (c .before .before .before .before .before .before .before .before .before .before .before .before .before .before .before .before .args .source .now) (c .before .before .before .before .before .before .before .before .before .before .before .before .before .before .before .before .args .sink .now) (c .before .before .before .before .before .before .before .before .before .before .before .before .before .before .before .before .args .delay .now) (c .before .before .before .before .before .loop .i) (c .before .before .before .before .before .before .before .before .before .before .before .before .before .before .before .before .pre .1 .0) (c .before .before .before .before .loop-test .taken) in
-    ((fit .2, omega (arith, sound .size, fit .1), c .before .before .before .before .before .loop .inv .0 .size), λ b l. sound .held (getD (start .args .sink .now) (c .before .before .before .before .before .loop .i) 0) b (fit .1) l .small)
+    ((fit .2, omega (arith, sound .size, fit .1), c .before .before .before .before .before .loop .inv .0 .size), λ b l. (sound .held (getD (start .args .sink .now) (c .before .before .before .before .before .loop .i) 0) b (fit .1) l .small, c .before .before .before .before .before .loop .inv .0 .held b l .small))
 
 mul-i-2 : tie.Need-mul-i-2 Inv-loop μ-loop
 mul-i-2 c = omega (arith, c .before .before .before .before .before .before .before .before .before .before .before .before .before .before .before .before .before .before .pre .0 .0, c .before .before .before .before .before .before .before .before .before .before .before .before .before .before .before .before .before .before .pre .0 .1, c .before .before .before .before .before .before .before .before .before .before .before .before .before .before .before .before .before .before .pre .0 .2, c .before .before .before .before .before .before .before .before .before .before .before .before .before .before .before .before .before .before .pre .0 .3, c .before .before .before .before .before .before .before .before .before .before .before .before .before .before .before .before .before .before .pre .1 .1 .0 .firsts .room, c .before .before .before .before .before .before .before .before .before .before .before .before .before .before .before .before .before .before .pre .1 .1 .0 .room, c .before .before .before .before .before .before .before .before .before .before .before .before .before .before .before .before .before .before .pre .1 .1 .1 .size, fit-at (c .before .before .before .before .before .before .before .before .before .before .before .before .before .before .before .before .before .before .args .source .now) (c .before .before .before .before .before .before .before .before .before .before .before .before .before .before .before .before .before .before .args .sink .now) (c .before .before .before .before .before .before .before .before .before .before .before .before .before .before .before .before .before .before .args .delay .now) (c .before .before .before .before .before .before .before .loop .i) (c .before .before .before .before .before .before .before .before .before .before .before .before .before .before .before .before .before .before .pre .1 .0) (c .before .before .before .before .before .before .loop-test .taken) .1, fit-at (c .before .before .before .before .before .before .before .before .before .before .before .before .before .before .before .before .before .before .args .source .now) (c .before .before .before .before .before .before .before .before .before .before .before .before .before .before .before .before .before .before .args .sink .now) (c .before .before .before .before .before .before .before .before .before .before .before .before .before .before .before .before .before .before .args .delay .now) (c .before .before .before .before .before .before .before .loop .i) (c .before .before .before .before .before .before .before .before .before .before .before .before .before .before .before .before .before .before .pre .1 .0) (c .before .before .before .before .before .before .loop-test .taken) .2, c .before .before .before .before .before .before .before .before .shared-slice-known7 .given (c .before .before .before .before .before .before .before .before .before .before .before .before .before .before .before .before .before .before .args .a), c .before .before .before .before .before .shared-slice-known8 .given (c .before .before .before .before .before .before .before .loop .i), c .before .before .before .before .shared-slice-known9 .given (c .before .before .before .before .before .before .before .loop .i), c .before .before .before .shared-slice-known10 .given (c .before .before .before .before .before .before .before .loop .i))

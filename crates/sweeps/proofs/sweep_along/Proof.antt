@@ -2,6 +2,7 @@
 use mathlib.Core.Path.{sym, _∙_}
 use Prim.Native.Nat.{_≤_}
 use native.Mathlib.Omega.{arith}
+use lib.ListN.{length}
 use borrow.Author.Needs.{needs}
 use Rattle.records.specs.Columns.{edgesOf}
 use Rattle.sweeps.specs.Sweeps.{Going, Fallen}
@@ -10,11 +11,11 @@ use Rattle.sweeps.proofs.sweep_along.Statement.{statement}
 use Rattle.sweeps.proofs.sweep_along.Tie as tie
 
 abbrev Inv-loop : tie.InvT-loop
-Inv-loop sequence count source sink delay first next follows table₀ stale₀ changed₀ k₀ table stale changed k =
-    (k ≤ count) × Going (edgesOf source sink delay) table stale × Fallen table₀ table changed
+Inv-loop sequence source sink delay first next follows table₀ stale₀ changed₀ k₀ table stale changed k =
+    (k ≤ length sequence) × Going (edgesOf source sink delay) table stale × Fallen table₀ table changed
 
 abbrev μ-loop : tie.MeasureT-loop
-μ-loop sequence count source sink delay first next follows table₀ stale₀ changed₀ k₀ table stale changed k = k
+μ-loop sequence source sink delay first next follows table₀ stale₀ changed₀ k₀ table stale changed k = k
 
 loop-holds : tie.Need-loop-holds Inv-loop μ-loop
 loop-holds c = (omega arith, c .before .before .before .before .before .before .before .before .before .pre .1 .1 .1 .1, fallen-not (c .before .before .before .before .before .before .before .before .before .args .table .now))
@@ -23,7 +24,7 @@ sub-k : tie.Need-sub-k Inv-loop μ-loop
 sub-k c = omega arith
 
 shared-slice-read-with-row : tie.Need-shared-slice-read-with-row Inv-loop μ-loop
-shared-slice-read-with-row c = omega (arith, c .before .before .loop .inv .0, c .before .before .before .before .before .before .before .before .before .before .before .before .pre .1 .0 .1)
+shared-slice-read-with-row c = omega (arith, c .before .before .loop .inv .0)
 
 with-row-requires : tie.Need-with-row-requires Inv-loop μ-loop
 with-row-requires c κs = search needs
@@ -31,7 +32,7 @@ with-row-requires c κs = search needs
 look-at-requires : tie.Need-look-at-requires Inv-loop μ-loop
 look-at-requires c κs =
     let asked = c .before .before .before .before .before .before .before .before .before .before .before .before .before .before .before .pre in
-    ((asked .0 .0, asked .0 .1, asked .0 .2, c .before .before .with-row .ensures), (asked .1 .0 .0, (asked .1 .1 .0, (asked .1 .1 .1 .0, c .before .before .before .before .before .loop .inv .1))))
+    ((asked .0 .0, asked .0 .1, asked .0 .2, c .before .before .with-row .ensures), (asked .1 .0, (asked .1 .1 .0, (asked .1 .1 .1 .0, c .before .before .before .before .before .loop .inv .1))))
 
 loop-less : tie.Need-loop-less Inv-loop μ-loop
 loop-less c = omega arith

@@ -4,7 +4,9 @@ use Rattle.tables.proofs.capped_table.Statement.{statement}
 use Rattle.tables.proofs.capped_table.Tie as tie
 
 by-inner-tasks-requires : tie.Need-by-inner-tasks-requires
-by-inner-tasks-requires c κs = c .before .before .before .before .before .before .pre
+by-inner-tasks-requires c κs =
+    let asked = c .before .before .before .before .before .before .before .pre in
+    (asked .0, ((asked .1 .0 .0, asked .1 .0 .1), asked .1 .1))
 
 same-length : tie.Need-same-length
 same-length c = c .before .before .by-inner-tasks .ensures .size
@@ -13,7 +15,9 @@ returns : tie.Need-returns
 returns c = c .before .before .by-inner-tasks .ensures
 
 by-inner-tasks-requires-2 : tie.Need-by-inner-tasks-requires-2
-by-inner-tasks-requires-2 c κs = c .before .before .before .before .before .before .before .pre
+by-inner-tasks-requires-2 c κs =
+    let asked = c .before .before .before .before .before .before .before .before .pre in
+    (asked .0, ((asked .1 .0 .0, asked .1 .0 .1), asked .1 .1))
 
 same-length-2 : tie.Need-same-length-2
 same-length-2 c = c .before .before .by-inner-tasks2 .ensures .size
@@ -23,7 +27,7 @@ returns-2 c = c .before .before .by-inner-tasks2 .ensures
 
 by-sweeps-requires : tie.Need-by-sweeps-requires
 by-sweeps-requires c κs =
-    let asked = c .before .before .before .before .before .before .before .pre in
+    let asked = c .before .before .before .before .before .before .before .before .pre in
     ((asked .0 .0, asked .0 .1, omega arith), asked .1)
 
 same-length-3 : tie.Need-same-length-3

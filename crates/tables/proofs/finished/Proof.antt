@@ -10,13 +10,13 @@ returns : tie.Need-returns
 unfolding chosen widened
 returns c =
     let x = c .before .args .entry in
-    sym (ap (λ (b : Bool). chosen b 65535 x) (decides-yes (eqb-decides x 32767) (c .if1 .taken)))
+    sym (ap (λ (b : Bool). chosen b 65535 x) (decides-yes (eqb-decides x 16383) (c .if1 .taken)))
 
 returns-2 : tie.Need-returns-2
 unfolding chosen widened
 returns-2 c =
     let x = c .before .args .entry in
-    sym (ap (λ (b : Bool). chosen b 65535 x) (decides-no (eqb-decides x 32767) (c .if1 .left)))
+    sym (ap (λ (b : Bool). chosen b 65535 x) (decides-no (eqb-decides x 16383) (c .if1 .left)))
 
 pub finished-spec : {M : Type 1} → statement M
 finished-spec =

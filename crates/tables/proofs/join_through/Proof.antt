@@ -76,7 +76,10 @@ lower-row-requires c κs =
     let low = start .pre .1 (c .before .before .before .before .before .loop .a) (start .args .k) (c .before .before .before .before .loop-test .taken) (start .pre .0 .0) in
     let size = c .before .before .before .before .before .before .before .copy-row .ensures .0 in (
       (omega (arith, entry (c .before .before .before .before) (start .args .k), low, c .before .before .if1 .taken), omega (arith, size, start .pre .0 .1, c .before .before .before .before .before .before .before .before .before .before .before .blank-row .ensures), room (c .before .before .before .before)),
-      λ b l. subst (λ (x : ℕ). x ≤ 32767) (sym (c .before .before .before .before .before .before .before .copy-row .ensures .1 b l)) (start .pre .1 (start .args .k) b (start .pre .0 .0) l),
+      λ b l. (
+        subst (λ (x : ℕ). x ≤ 16383) (sym (c .before .before .before .before .before .before .before .copy-row .ensures .1 b l)) (start .pre .1 (start .args .k) b (start .pre .0 .0) l),
+        subst (λ (x : ℕ). x ≤ 16383) (sym (entry (c .before .before .before .before) b)) (start .pre .1 (c .before .before .before .before .before .loop .a) b (c .before .before .before .before .loop-test .taken) l),
+      ),
     )
 
 add-at : tie.Need-add-at Inv-loop μ-loop

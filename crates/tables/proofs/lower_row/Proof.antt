@@ -3,7 +3,6 @@ use mathlib.Core.Path.{_≡_, refl, ap, _∙_}
 use mathlib.Core.Logic.{inl, inr, ⊎-elim}
 use Prim.Native.Nat.{ℕ, _+_, _-_, _≤_, _<_, min}
 use native.Mathlib.Omega.{arith}
-use borrow.Author.Needs.{needs}
 use lib.ListN.{length, getD}
 use Rattle.sweeps.proofs.Parts.{PartDone, part-none, part-next, part-more}
 use Rattle.tables.proofs.lower_row.Statement.{statement}
@@ -20,26 +19,31 @@ loop-holds c =
     let start = c .before .before in
     (omega arith, part-none (start .args .at) (λ i. min (getD (start .args .table .now) (start .args .at + i) 0) (start .args .way + getD (start .args .onward .now) i 0)) (start .args .table .now))
 
-add-lesser : tie.Need-add-lesser Inv-loop μ-loop
-add-lesser c = omega (arith, c .before .loop .inv .1 .size, c .before .before .before .before .pre .0 .0, c .before .before .before .before .pre .0 .1, c .before .before .before .before .pre .0 .2)
+add-nearer : tie.Need-add-nearer Inv-loop μ-loop
+add-nearer c = omega (arith, c .before .loop .inv .1 .size, c .before .before .before .before .pre .0 .0, c .before .before .before .before .pre .0 .1, c .before .before .before .before .pre .0 .2)
 
-mul-lesser : tie.Need-mul-lesser Inv-loop μ-loop
-mul-lesser c = omega (arith, c .before .loop .inv .1 .size, c .before .before .before .before .pre .0 .0, c .before .before .before .before .pre .0 .1, c .before .before .before .before .pre .0 .2)
+mul-nearer : tie.Need-mul-nearer Inv-loop μ-loop
+mul-nearer c = omega (arith, c .before .loop .inv .1 .size, c .before .before .before .before .pre .0 .0, c .before .before .before .before .pre .0 .1, c .before .before .before .before .pre .0 .2)
 
-slice-read-lesser : tie.Need-slice-read-lesser Inv-loop μ-loop
-slice-read-lesser c = omega (arith, c .before .before .loop .inv .1 .size, c .before .before .before .before .before .pre .0 .0, c .before .before .before .before .before .pre .0 .1, c .before .before .before .before .before .pre .0 .2)
+slice-read-nearer : tie.Need-slice-read-nearer Inv-loop μ-loop
+slice-read-nearer c = omega (arith, c .before .before .loop .inv .1 .size, c .before .before .before .before .before .pre .0 .0, c .before .before .before .before .before .pre .0 .1, c .before .before .before .before .before .pre .0 .2)
 
-mul-lesser-2 : tie.Need-mul-lesser-2 Inv-loop μ-loop
-mul-lesser-2 c = omega (arith, c .before .before .loop .inv .1 .size, c .before .before .before .before .before .pre .0 .0, c .before .before .before .before .before .pre .0 .1, c .before .before .before .before .before .pre .0 .2)
+mul-nearer-2 : tie.Need-mul-nearer-2 Inv-loop μ-loop
+mul-nearer-2 c = omega (arith, c .before .before .loop .inv .1 .size, c .before .before .before .before .before .pre .0 .0, c .before .before .before .before .before .pre .0 .1, c .before .before .before .before .before .pre .0 .2)
 
-shared-slice-read-lesser : tie.Need-shared-slice-read-lesser Inv-loop μ-loop
-shared-slice-read-lesser c = omega (arith, c .before .before .before .loop .inv .1 .size, c .before .before .before .before .before .before .pre .0 .0, c .before .before .before .before .before .before .pre .0 .1, c .before .before .before .before .before .before .pre .0 .2)
+shared-slice-read-nearer : tie.Need-shared-slice-read-nearer Inv-loop μ-loop
+shared-slice-read-nearer c = omega (arith, c .before .before .before .loop .inv .1 .size, c .before .before .before .before .before .before .pre .0 .0, c .before .before .before .before .before .before .pre .0 .1, c .before .before .before .before .before .before .pre .0 .2)
 
-add-lesser-2 : tie.Need-add-lesser-2 Inv-loop μ-loop
-add-lesser-2 c = omega (arith, c .before .before .before .before .before .before .pre .0 .0, c .before .before .before .before .before .before .pre .1 (c .before .before .before .loop .b) (c .before .before .loop-test .taken))
+add-nearer-2 : tie.Need-add-nearer-2 Inv-loop μ-loop
+add-nearer-2 c = omega (arith, c .before .before .before .before .before .before .pre .0 .0, c .before .before .before .before .before .before .pre .1 (c .before .before .before .loop .b) (c .before .before .loop-test .taken) .0)
 
-lesser-requires : tie.Need-lesser-requires Inv-loop μ-loop
-lesser-requires c κs = search needs
+nearer-requires : tie.Need-nearer-requires Inv-loop μ-loop
+nearer-requires c κs =
+    let start = c .before .before .before .before .before .before in
+    let inv = c .before .before .before .loop .inv in
+    let b = c .before .before .before .loop .b in
+    let low = start .pre .1 b (c .before .before .loop-test .taken) in
+    (omega (arith, low .1, part-next (inv .1) (start .args .at + b) refl), omega (arith, start .pre .0 .0, low .0))
 
 add-table : tie.Need-add-table Inv-loop μ-loop
 add-table c = omega (arith, c .before .before .before .before .loop .inv .1 .size, c .before .before .before .before .before .before .before .pre .0 .0, c .before .before .before .before .before .before .before .pre .0 .1, c .before .before .before .before .before .before .before .pre .0 .2)
@@ -63,7 +67,7 @@ loop-again c =
     let b = c .before .before .before .before .loop .b in
     let at = start .args .at in
     let inside : at + b < length (c .before .before .before .before .loop .table) = omega (arith, inv .1 .size, start .pre .0 .2) in
-    (omega arith, part-more (inv .1) (at + b) (c .lesser .result) refl inside (c .lesser .ensures ∙ ap (λ (x : ℕ). min x (start .args .way + getD (start .args .onward .now) b 0)) (part-next (inv .1) (at + b) refl)))
+    (omega arith, part-more (inv .1) (at + b) (c .nearer .result) refl inside (c .nearer .ensures ∙ ap (λ (x : ℕ). min x (start .args .way + getD (start .args .onward .now) b 0)) (part-next (inv .1) (at + b) refl)))
 
 same-length : tie.Need-same-length Inv-loop μ-loop
 same-length c = c .before .loop .inv .1 .size
@@ -85,13 +89,13 @@ lower-row-spec =
     Inv-loop
     μ-loop
     loop-holds
-    add-lesser
-    mul-lesser
-    slice-read-lesser
-    mul-lesser-2
-    shared-slice-read-lesser
-    add-lesser-2
-    lesser-requires
+    add-nearer
+    mul-nearer
+    slice-read-nearer
+    mul-nearer-2
+    shared-slice-read-nearer
+    add-nearer-2
+    nearer-requires
     add-table
     mul-table
     slice-write-table

@@ -1,4 +1,4 @@
--- `tables::set_far` meets its contract: after i steps the first i entries are 32,767.
+-- `tables::set_far` meets its contract: after i steps the first i entries are 16,383.
 use mathlib.Core.Path.{refl}
 use Prim.Native.Nat.{_-_, _≤_, _<_}
 use native.Mathlib.Omega.{arith}
@@ -8,13 +8,13 @@ use Rattle.tables.proofs.set_far.Statement.{statement}
 use Rattle.tables.proofs.set_far.Tie as tie
 
 abbrev Inv-loop : tie.InvT-loop
-Inv-loop count table₀ i₀ table i = (i ≤ count) × PartDone 0 i (λ b. 32767) table₀ table
+Inv-loop count table₀ i₀ table i = (i ≤ count) × PartDone 0 i (λ b. 16383) table₀ table
 
 abbrev μ-loop : tie.MeasureT-loop
 μ-loop count table₀ i₀ table i = count - i
 
 loop-holds : tie.Need-loop-holds Inv-loop μ-loop
-loop-holds c = (omega arith, part-none 0 (λ b. 32767) (c .args .table .now))
+loop-holds c = (omega arith, part-none 0 (λ b. 16383) (c .args .table .now))
 
 mul-table : tie.Need-mul-table Inv-loop μ-loop
 mul-table c = omega (arith, c .before .loop .inv .1 .size, c .before .before .pre)
@@ -32,7 +32,7 @@ loop-again : tie.Need-loop-again Inv-loop μ-loop
 loop-again c =
     let inv = c .before .loop .inv in
     let inside : c .before .loop .i < length (c .before .loop .table) = omega (arith, inv .1 .size, c .before .before .pre) in
-    (omega arith, part-more (inv .1) (c .before .loop .i) 32767 (omega arith) inside refl)
+    (omega arith, part-more (inv .1) (c .before .loop .i) 16383 (omega arith) inside refl)
 
 same-length : tie.Need-same-length Inv-loop μ-loop
 same-length c = c .before .loop .inv .1 .size

@@ -18,8 +18,8 @@ slice-aggregate-take-edges-2 c = search needs
 
 take-edges-requires : tie.Need-take-edges-requires
 take-edges-requires c κs =
-    let args = c .before .before .before .before .before .before .before .before .before .before .args in
-    let pre = c .before .before .before .before .before .before .before .before .before .before .pre in (
+    let args = c .before .before .before .before .before .before .before .before .before .before .before .args in
+    let pre = c .before .before .before .before .before .before .before .before .before .before .before .pre in (
       pre .0,
       (
         λ j l. let inside = ends-inside (args .source .now) (args .sink .now) (args .delay .now) _ (pre .1 .1 .0) j l in (omega (arith, inside .0, pre .1 .0 .1), omega (arith, inside .1, pre .1 .0 .1)),
@@ -35,30 +35,33 @@ slice-aggregate-walk-tasks-2 c = search needs
 
 walk-tasks-requires : tie.Need-walk-tasks-requires
 walk-tasks-requires c κs =
-    let pre = c .before .before .before .before .before .before .before .before .before .before .before .before .before .before .before .before .pre in
-    let words = c .before .before .before .before .before .take-edges .ensures in (
+    let pre = c .before .before .before .before .before .before .before .before .before .before .before .before .before .before .before .before .before .before .pre in
+    let words = c .before .before .before .before .before .before .take-edges .ensures in (
       (words .0 .room, words .1 .room, pre .1 .0 .0),
-      ((pre .1 .0 .2, pre .1 .0 .1), (sinks-inside (words .0) (pre .1 .0 .1) (pre .1 .1 .0), pre .1 .1 .1)),
+      ((pre .1 .0 .2, pre .1 .0 .1, pre .1 .0 .3), (sinks-inside (words .0) (pre .1 .0 .1) (pre .1 .1 .0), pre .1 .1 .1)),
     )
 
-mul-t22 : tie.Need-mul-t22
-mul-t22 c = search needs
+mul-t25 : tie.Need-mul-t25
+mul-t25 c = omega (arith, c .before .before .before .before .before .before .before .before .before .before .before .before .before .before .before .before .before .before .before .before .before .before .before .pre .1 .0 .1, c .before .before .before .before .before .before .before .before .before .before .before .before .before .before .before .before .before .before .before .before .before .before .before .pre .1 .0 .2)
 
-array-read-t25 : tie.Need-array-read-t25
-array-read-t25 c = search needs
+array-read-t28 : tie.Need-array-read-t28
+array-read-t28 c = omega (arith, c .before .before .before .before .before .before .before .before .before .before .before .before .before .before .before .before .before .before .before .before .before .before .before .pre .1 .0 .1, c .before .before .before .before .before .before .before .before .before .before .before .before .before .before .before .before .before .before .before .before .before .before .before .pre .1 .0 .2)
 
 same-length : tie.Need-same-length
 same-length c = search needs
 
+same-length-2 : tie.Need-same-length-2
+same-length-2 c = search needs
+
 returns : tie.Need-returns
 returns c =
-    let pre = c .before .before .before .before .before .before .before .before .before .before .before .before .before .before .before .before .before .before .before .pre in
-    let words = c .before .before .before .before .before .before .before .before .take-edges .ensures in
-    let walk = c .before .before .walk-tasks .ensures in (
+    let pre = c .before .before .before .before .before .before .before .before .before .before .before .before .before .before .before .before .before .before .before .before .before .before .before .pre in
+    let words = c .before .before .before .before .before .before .before .before .before .before .before .take-edges .ensures in
+    let walk = c .before .before .before .before .walk-tasks .ensures in (
       walk .0,
       (
         λ found. walked-turned (words .0) (pre .1 .0 .1) (pre .1 .1 .0) (walk .1 .0 found) (walk .1 .1 found) (pre .1 .1 .1),
-        free-test (words .1) (c .before .before .before .before .before .before .before .before .before .before .before .before .before .before .before .before .before .before .before .args .input) (omega (arith, pre .1 .0 .1, pre .1 .0 .2)),
+        free-test (words .1) (c .before .before .before .before .before .before .before .before .before .before .before .before .before .before .before .before .before .before .before .before .before .before .before .args .input) (omega (arith, pre .1 .0 .1, pre .1 .0 .2)),
       ),
     )
 
@@ -73,7 +76,8 @@ first-turn-spec =
     slice-aggregate-walk-tasks
     slice-aggregate-walk-tasks-2
     walk-tasks-requires
-    mul-t22
-    array-read-t25
+    mul-t25
+    array-read-t28
     same-length
+    same-length-2
     returns)

@@ -6,7 +6,7 @@ use native.Mathlib.Omega.{arith}
 use lib.ListN.{length, length-replicate}
 use Rattle.records.specs.Columns.{edgesOf}
 use Rattle.updates.specs.Updates.{Small, Fronts}
-use Rattle.updates.proofs.Pairs.{rowOf, kept-row, fell-kept, counts-kept, counts-after, pair-added}
+use Rattle.updates.proofs.Pairs.{rowOf, kept-row, rows-kept, fell-kept, counts-kept, counts-after, pair-added}
 use borrow.Author.Needs.{needs}
 use Rattle.updates.proofs.add_pair.Statement.{statement}
 use Rattle.updates.proofs.add_pair.Tie as tie
@@ -172,7 +172,10 @@ shift-edges-requires c κs =
           (rows .fell-size, columns .fell-size),
           (
             (fell-kept (from-same d) (rows .falls), fell-kept (to-same d) (columns .falls)),
-            (few, counts-kept (from-same d) (to-same d) (few .0) (few .3) (asked .1 .1 .1 .1)),
+            (
+              (rows-kept (begin d .args .tasks) (to-same d) (asked .1 .0 .3), λ i l. columns .small i),
+              (few, counts-kept (from-same d) (to-same d) (few .0) (few .3) (asked .1 .1 .1 .1)),
+            ),
           ),
         ),
       ),

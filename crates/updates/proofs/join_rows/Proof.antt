@@ -1,4 +1,4 @@
--- `updates::join_rows` meets its contract: after x steps the first x rows are lowered. A row without a way stays, since no number is above 32,767.
+-- `updates::join_rows` meets its contract: after x steps the first x rows are lowered. A row without a way stays, since no number is above 16,383.
 use mathlib.Core.Path.{_≡_, sym, _∙_, subst}
 use mathlib.Core.Logic.{⊎-elim}
 use Prim.Native.Nat.{ℕ, _+_, _-_, _*_, _≤_, _<_}
@@ -53,7 +53,7 @@ lower-row-requires c κs =
     let inner = c .before .before .before in
     let asked = start inner .pre in (
       (asked .1 .0 (inner .before .loop .x), omega (arith, asked .0), λ y l. omega (arith, asked .1 .0 y, asked .1 .1 y)),
-      (row-inside inner, omega (arith, few inner)),
+      (row-inside inner, omega (arith, few inner), λ y l. inner .before .loop .inv .1 .joined .small (inner .before .loop .x * 64 + y)),
     )
 
 mul-fell-2 : tie.Need-mul-fell-2 Inv-loop μ-loop
@@ -83,7 +83,7 @@ loop-again c =
     (λ w.
     rw (w .1, w .2)
     (joined-more (args .ways .now) (args .onward .now) done (few inner)
-    (row-still (at (args .ways .now) x) (args .onward .now) (x * 64) rows 65535 (w .0 .taken) (done .joined .small))))
+    (row-still (at (args .ways .now) x) (args .onward .now) (x * 64) rows 32767 (w .0 .taken) (done .joined .small))))
     (λ w. rw (w .5, w .6) (joined-more (args .ways .now) (args .onward .now) done (few inner) (w .2 .ensures)))
     (c .if1 .came) in
     (omega arith, so-far)

@@ -1,17 +1,17 @@
 -- `updates::lower_row` meets its contract: after y steps y numbers are lowered, and each of them that fell is at least the least so far.
 use mathlib.Core.Path.{_≡_, subst}
+use mathlib.Core.Logic.{inr}
 use Prim.Native.Nat.{ℕ, _+_, _-_, _≤_, _<_}
 use native.Mathlib.Omega.{arith}
-use borrow.Author.Needs.{needs}
 use lib.ListN.{length, getD}
 use Rattle.records.specs.Columns.{at}
 use Rattle.updates.specs.Updates.{RowFell}
-use Rattle.updates.proofs.Falls.{fall-counted, row-none, row-more}
+use Rattle.updates.proofs.Falls.{fall-counted, fall-small, row-none, row-more}
 use Rattle.updates.proofs.lower_row.Statement.{statement}
 use Rattle.updates.proofs.lower_row.Tie as tie
 
 abbrev Inv-loop : tie.InvT-loop
-Inv-loop way onward start rows₀ least₀ y₀ rows least y = (y ≤ 64) × RowFell way onward start y rows₀ rows least
+Inv-loop way onward start rows₀ least₀ y₀ rows least y = (y ≤ 64) × RowFell way onward start y rows₀ rows least × (least ≤ 32767)
 
 abbrev μ-loop : tie.MeasureT-loop
 μ-loop way onward start rows₀ least₀ y₀ rows least y = 64 - y
@@ -19,14 +19,23 @@ abbrev μ-loop : tie.MeasureT-loop
 abbrev start : tie.In-loop Inv-loop μ-loop → tie.Start Inv-loop μ-loop
 start c = c .before .before .before .before
 
--- the number read and written stands within the rows
+-- the number read and written stands within the rows, and is small, since it is as it was
 inside : (c : tie.In-loop Inv-loop μ-loop) → start c .args .start + c .before .loop .y < length (c .before .loop .rows)
 inside c = omega (arith, c .before .loop .inv .1 .size, start c .pre .1, c .loop-test .taken)
+
+small : (c : tie.In-loop Inv-loop μ-loop) → at (c .before .loop .rows) (start c .args .start + c .before .loop .y) ≤ 16383
+small c =
+    let y = c .before .loop .y in
+    omega (
+      arith,
+      c .before .loop .inv .1 .outside (start c .args .start + y) (inr (omega arith)),
+      start c .pre .1 .2 y (omega (arith, c .loop-test .taken)),
+    )
 
 loop-holds : tie.Need-loop-holds Inv-loop μ-loop
 loop-holds c =
     let args = c .before .before .args in
-    (omega arith, row-none (args .way) (args .onward .now) (args .start) (args .rows .now) 65535)
+    (omega arith, row-none (args .way) (args .onward .now) (args .start) (args .rows .now) 32767, omega arith)
 
 add-before : tie.Need-add-before Inv-loop μ-loop
 add-before c = omega (arith, start c .pre .1)
@@ -37,29 +46,37 @@ mul-before c = omega (arith, start c .pre .1)
 slice-read-before : tie.Need-slice-read-before Inv-loop μ-loop
 slice-read-before c = inside (c .before)
 
-mul-lesser : tie.Need-mul-lesser Inv-loop μ-loop
-mul-lesser c = omega arith
+mul-nearer : tie.Need-mul-nearer Inv-loop μ-loop
+mul-nearer c = omega arith
 
-shared-slice-read-lesser : tie.Need-shared-slice-read-lesser Inv-loop μ-loop
-shared-slice-read-lesser c =
+shared-slice-read-nearer : tie.Need-shared-slice-read-nearer Inv-loop μ-loop
+shared-slice-read-nearer c =
     let inner = c .before .before in
     omega (arith, start inner .pre .0 .1, inner .loop-test .taken)
 
-add-lesser : tie.Need-add-lesser Inv-loop μ-loop
+add-nearer : tie.Need-add-nearer Inv-loop μ-loop
 unfolding at
-add-lesser c =
+add-nearer c =
     let inner = c .before .before in
     let asked = start inner .pre .0 in
     omega (arith, asked .0, asked .2 (inner .before .loop .y) (omega (arith, inner .loop-test .taken)))
 
-lesser-requires : tie.Need-lesser-requires Inv-loop μ-loop
-lesser-requires c κs = search needs
+nearer-requires : tie.Need-nearer-requires Inv-loop μ-loop
+unfolding at
+nearer-requires c κs =
+    let inner = c .before .before in
+    let asked = start inner .pre .0 in
+    (omega (arith, small inner), omega (arith, asked .0, asked .2 (inner .before .loop .y) (omega (arith, inner .loop-test .taken))))
 
 fallen-requires : tie.Need-fallen-requires Inv-loop μ-loop
-fallen-requires c κs = search needs
+unfolding at
+fallen-requires c κs = (omega (arith, small (c .before .before .before)), omega (arith, small (c .before .before .before), c .nearer .ensures))
 
-lesser-requires-2 : tie.Need-lesser-requires-2 Inv-loop μ-loop
-lesser-requires-2 c κs = search needs
+nearer-requires-2 : tie.Need-nearer-requires-2 Inv-loop μ-loop
+unfolding at
+nearer-requires-2 c κs =
+    let inner = c .before .before .before .before in
+    (inner .before .loop .inv .2, fall-small (omega (arith, small inner)) (c .fallen .ensures .0) (c .fallen .ensures .1))
 
 add-rows : tie.Need-add-rows Inv-loop μ-loop
 add-rows c = omega (arith, start (c .before .before .before .before .before) .pre .1)
@@ -83,14 +100,15 @@ loop-again c =
     let args = start inner .args in
     let y = inner .before .loop .y in
     let old = getD (inner .before .loop .rows) (args .start + y) 0 in
-    let new = c .before .before .lesser .result in
-    let is = c .before .before .lesser .ensures in
+    let new = c .before .before .nearer .result in
+    let is = c .before .before .nearer .ensures in
     let low : new ≤ old = omega (arith, is) in
     let least = inner .before .loop .least in
-    let kept : c .lesser2 .result ≤ least = omega (arith, c .lesser2 .ensures) in (
+    let kept : c .nearer2 .result ≤ least = omega (arith, c .nearer2 .ensures) in (
       omega arith,
-      row-more (args .way) (args .onward .now) (args .start) new (c .lesser2 .result) (inner .before .loop .inv .1) (inside inner) is kept
-          (fall-counted old new (c .before .fallen .result) least low (c .before .fallen .ensures .1) (c .lesser2 .ensures)),
+      row-more (args .way) (args .onward .now) (args .start) new (c .nearer2 .result) (inner .before .loop .inv .1) (inside inner) is kept
+          (fall-counted old new (c .before .fallen .result) least low (c .before .fallen .ensures .1) (c .nearer2 .ensures)),
+      omega (arith, inner .before .loop .inv .2),
     )
 
 same-length : tie.Need-same-length Inv-loop μ-loop
@@ -113,12 +131,12 @@ lower-row-spec =
     add-before
     mul-before
     slice-read-before
-    mul-lesser
-    shared-slice-read-lesser
-    add-lesser
-    lesser-requires
+    mul-nearer
+    shared-slice-read-nearer
+    add-nearer
+    nearer-requires
     fallen-requires
-    lesser-requires-2
+    nearer-requires-2
     add-rows
     mul-rows
     slice-write-rows

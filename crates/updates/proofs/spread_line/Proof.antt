@@ -16,7 +16,7 @@ use Rattle.updates.proofs.spread_line.Tie as tie
 
 -- entry i of a line, cut
 abbrev entryOf : List ℕ → ℕ → ℕ → ℕ → ℕ
-entryOf table first step i = min (at table (first + i * step)) 32767
+entryOf table first step i = min (at table (first + i * step)) 16383
 
 abbrev Inv-loop : tie.InvT-loop
 Inv-loop table first step tasks start lines₀ place₀ b₀ lines place b =
@@ -84,7 +84,7 @@ loop-again c =
     let inv = inner .before .loop .inv in
     let next : (b + 1) * args .step ≡ b * args .step + args .step = ap (λ (x : ℕ). x * args .step) (add-one b) ∙ suc-mul b (args .step) in
     let value : c .lesser .result ≡ entryOf (args .table .now) (args .first) (args .step) b =
-    c .lesser .ensures ∙ ap (λ (p : ℕ). min (getD (args .table .now) p 0) 32767) (inv .1) in
+    c .lesser .ensures ∙ ap (λ (p : ℕ). min (getD (args .table .now) p 0) 16383) (inv .1) in
     (omega arith, omega arith, part-more (inv .2) (args .start + b) (c .lesser .result) refl (inside inner) value)
 
 same-length : tie.Need-same-length Inv-loop μ-loop

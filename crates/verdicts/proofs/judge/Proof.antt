@@ -25,7 +25,7 @@ part-result-edges-into-start : tie.Need-part-result-edges-into-start
 part-result-edges-into-start c = search needs
 
 part-result-edges-into-end : tie.Need-part-result-edges-into-end
-part-result-edges-into-end c = graph-within (c .before .before .before .before .before .before .before .before .before .before .before .pre .2) .source
+part-result-edges-into-end c = graph-within (c .before .before .before .before .before .before .before .before .before .before .before .before .pre .0 .2) .source
 
 sub-result-edges-into-2 : tie.Need-sub-result-edges-into-2
 sub-result-edges-into-2 c = search needs
@@ -35,7 +35,7 @@ part-result-edges-into-start-2 c = search needs
 
 part-result-edges-into-end-2 : tie.Need-part-result-edges-into-end-2
 part-result-edges-into-end-2 c =
-    graph-within (c .before .before .before .before .before .before .before .before .before .before .before .before .pre .2) .sink
+    graph-within (c .before .before .before .before .before .before .before .before .before .before .before .before .before .pre .0 .2) .sink
 
 sub-result-edges-into-3 : tie.Need-sub-result-edges-into-3
 sub-result-edges-into-3 c = search needs
@@ -45,7 +45,7 @@ part-result-edges-into-start-3 c = search needs
 
 part-result-edges-into-end-3 : tie.Need-part-result-edges-into-end-3
 part-result-edges-into-end-3 c =
-    graph-within (c .before .before .before .before .before .before .before .before .before .before .before .before .before .pre .2) .delay
+    graph-within (c .before .before .before .before .before .before .before .before .before .before .before .before .before .before .pre .0 .2) .delay
 
 sub-result-edges-into-4 : tie.Need-sub-result-edges-into-4
 sub-result-edges-into-4 c = search needs
@@ -55,7 +55,7 @@ part-result-edges-into-start-4 c = search needs
 
 part-result-edges-into-end-4 : tie.Need-part-result-edges-into-end-4
 part-result-edges-into-end-4 c =
-    processors-within (c .before .before .before .before .before .before .before .before .before .before .before .before .before .before .pre .2)
+    processors-within (c .before .before .before .before .before .before .before .before .before .before .before .before .before .before .before .pre .0 .2)
 
 sub-result-edges-into-5 : tie.Need-sub-result-edges-into-5
 sub-result-edges-into-5 c = search needs
@@ -65,7 +65,7 @@ part-result-edges-into-start-5 c = search needs
 
 part-result-edges-into-end-5 : tie.Need-part-result-edges-into-end-5
 part-result-edges-into-end-5 c =
-    let given = c .before .before .before .before .before .before .before .before .before .before .before .before .before .before .before .pre .2 in
+    let given = c .before .before .before .before .before .before .before .before .before .before .before .before .before .before .before .before .pre .0 .2 in
     omega (arith, few-proposed given, proposed-fronts given .source-room)
 
 sub-result-edges-into-6 : tie.Need-sub-result-edges-into-6
@@ -76,7 +76,7 @@ part-result-edges-into-start-6 c = search needs
 
 part-result-edges-into-end-6 : tie.Need-part-result-edges-into-end-6
 part-result-edges-into-end-6 c =
-    let given = c .before .before .before .before .before .before .before .before .before .before .before .before .before .before .before .before .pre .2 in
+    let given = c .before .before .before .before .before .before .before .before .before .before .before .before .before .before .before .before .before .pre .0 .2 in
     omega (arith, few-proposed given, proposed-fronts given .sink-room)
 
 sub-result-edges-into-7 : tie.Need-sub-result-edges-into-7
@@ -87,7 +87,7 @@ part-result-edges-into-start-7 c = search needs
 
 part-result-edges-into-end-7 : tie.Need-part-result-edges-into-end-7
 part-result-edges-into-end-7 c =
-    let given = c .before .before .before .before .before .before .before .before .before .before .before .before .before .before .before .before .before .pre .2 in
+    let given = c .before .before .before .before .before .before .before .before .before .before .before .before .before .before .before .before .before .before .pre .0 .2 in
     omega (arith, few-proposed given, proposed-fronts given .delay-room)
 
 slice-aggregate-result-edges-into : tie.Need-slice-aggregate-result-edges-into
@@ -101,7 +101,7 @@ slice-aggregate-result-edges-into-3 c = search needs
 
 result-edges-into-requires : tie.Need-result-edges-into-requires
 result-edges-into-requires c κs =
-    let given = c .before .before .before .before .before .before .before .before .before .before .before .before .before .before .before .before .before .before .before .before .before .pre .2 in
+    let given = c .before .before .before .before .before .before .before .before .before .before .before .before .before .before .before .before .before .before .before .before .before .before .pre .0 .2 in
     let held = graph-fronts given in
     let more = proposed-fronts given in (
       (held .as-many-sinks, held .as-many-delays),
@@ -122,7 +122,7 @@ part-paths-between-processors-start c = search needs
 
 part-paths-between-processors-end : tie.Need-part-paths-between-processors-end
 part-paths-between-processors-end c =
-    result-within (c .before .before .before .before .before .before .before .before .before .before .before .before .before .before .before .before .before .before .before .before .before .before .before .before .before .before .pre .2) (made-by-processors (c .before .before .before .before .before .before .before .before .before .before .before .before .before .before .before .before .before .before .before .before .before .before .before .before .before .before .pre .2) (c .before .before .before .before .result-edges-into .ensures)) .0
+    result-within (c .before .before .before .before .before .before .before .before .before .before .before .before .before .before .before .before .before .before .before .before .before .before .before .before .before .before .before .pre .0 .2) (made-by-processors (c .before .before .before .before .before .before .before .before .before .before .before .before .before .before .before .before .before .before .before .before .before .before .before .before .before .before .before .pre .0 .2) (c .before .before .before .before .result-edges-into .ensures)) .0
 
 sub-paths-between-processors-2 : tie.Need-sub-paths-between-processors-2
 sub-paths-between-processors-2 c = search needs
@@ -132,7 +132,7 @@ part-paths-between-processors-start-2 c = search needs
 
 part-paths-between-processors-end-2 : tie.Need-part-paths-between-processors-end-2
 part-paths-between-processors-end-2 c =
-    result-within (c .before .before .before .before .before .before .before .before .before .before .before .before .before .before .before .before .before .before .before .before .before .before .before .before .before .before .before .before .pre .2) (made-by-processors (c .before .before .before .before .before .before .before .before .before .before .before .before .before .before .before .before .before .before .before .before .before .before .before .before .before .before .before .before .pre .2) (c .before .before .before .before .before .before .result-edges-into .ensures)) .1
+    result-within (c .before .before .before .before .before .before .before .before .before .before .before .before .before .before .before .before .before .before .before .before .before .before .before .before .before .before .before .before .before .pre .0 .2) (made-by-processors (c .before .before .before .before .before .before .before .before .before .before .before .before .before .before .before .before .before .before .before .before .before .before .before .before .before .before .before .before .before .pre .0 .2) (c .before .before .before .before .before .before .result-edges-into .ensures)) .1
 
 sub-paths-between-processors-3 : tie.Need-sub-paths-between-processors-3
 sub-paths-between-processors-3 c = search needs
@@ -142,12 +142,12 @@ part-paths-between-processors-start-3 c = search needs
 
 part-paths-between-processors-end-3 : tie.Need-part-paths-between-processors-end-3
 part-paths-between-processors-end-3 c =
-    processors-within (c .before .before .before .before .before .before .before .before .before .before .before .before .before .before .before .before .before .before .before .before .before .before .before .before .before .before .before .before .before .pre .2)
+    processors-within (c .before .before .before .before .before .before .before .before .before .before .before .before .before .before .before .before .before .before .before .before .before .before .before .before .before .before .before .before .before .before .pre .0 .2)
 
 paths-between-processors-requires : tie.Need-paths-between-processors-requires
 paths-between-processors-requires c κs =
-    let given = c .before .before .before .before .before .before .before .before .before .before .before .before .before .before .before .before .before .before .before .before .before .before .before .before .before .before .before .before .before .before .pre .2 in
-    let made = (made-by-processors (c .before .before .before .before .before .before .before .before .before .before .before .before .before .before .before .before .before .before .before .before .before .before .before .before .before .before .before .before .before .before .pre .2) (c .before .before .before .before .before .before .before .before .result-edges-into .ensures)) in
+    let given = c .before .before .before .before .before .before .before .before .before .before .before .before .before .before .before .before .before .before .before .before .before .before .before .before .before .before .before .before .before .before .before .pre .0 .2 in
+    let made = (made-by-processors (c .before .before .before .before .before .before .before .before .before .before .before .before .before .before .before .before .before .before .before .before .before .before .before .before .before .before .before .before .before .before .before .pre .0 .2) (c .before .before .before .before .before .before .before .before .result-edges-into .ensures)) in
     (result-sinks given made, (result-joins given made, processors-small given))
 
 sub-cyclic-place : tie.Need-sub-cyclic-place
@@ -158,7 +158,7 @@ part-cyclic-place-start c = search needs
 
 part-cyclic-place-end : tie.Need-part-cyclic-place-end
 part-cyclic-place-end c =
-    let given = c .before .before .before .before .before .before .before .before .before .before .before .before .before .before .before .before .before .before .before .before .before .before .before .before .before .before .before .before .before .before .before .before .pre .2 in
+    let given = c .before .before .before .before .before .before .before .before .before .before .before .before .before .before .before .before .before .before .before .before .before .before .before .before .before .before .before .before .before .before .before .before .before .pre .0 .2 in
     omega (arith, few-proposed given, proposed-fronts given .source-room)
 
 sub-cyclic-place-2 : tie.Need-sub-cyclic-place-2
@@ -169,7 +169,7 @@ part-cyclic-place-start-2 c = search needs
 
 part-cyclic-place-end-2 : tie.Need-part-cyclic-place-end-2
 part-cyclic-place-end-2 c =
-    let given = c .before .before .before .before .before .before .before .before .before .before .before .before .before .before .before .before .before .before .before .before .before .before .before .before .before .before .before .before .before .before .before .before .before .pre .2 in
+    let given = c .before .before .before .before .before .before .before .before .before .before .before .before .before .before .before .before .before .before .before .before .before .before .before .before .before .before .before .before .before .before .before .before .before .before .pre .0 .2 in
     omega (arith, few-proposed given, proposed-fronts given .sink-room)
 
 sub-cyclic-place-3 : tie.Need-sub-cyclic-place-3
@@ -180,15 +180,15 @@ part-cyclic-place-start-3 c = search needs
 
 part-cyclic-place-end-3 : tie.Need-part-cyclic-place-end-3
 part-cyclic-place-end-3 c =
-    processors-within (c .before .before .before .before .before .before .before .before .before .before .before .before .before .before .before .before .before .before .before .before .before .before .before .before .before .before .before .before .before .before .before .before .before .before .pre .2)
+    processors-within (c .before .before .before .before .before .before .before .before .before .before .before .before .before .before .before .before .before .before .before .before .before .before .before .before .before .before .before .before .before .before .before .before .before .before .before .pre .0 .2)
 
 slice-aggregate-cyclic-place : tie.Need-slice-aggregate-cyclic-place
 slice-aggregate-cyclic-place c = search needs
 
 cyclic-place-requires : tie.Need-cyclic-place-requires
 cyclic-place-requires c κs =
-    let given = c .before .before .before .before .before .before .before .before .before .before .before .before .before .before .before .before .before .before .before .before .before .before .before .before .before .before .before .before .before .before .before .before .before .before .before .before .pre .2 in
-    let made = (made-by-processors (c .before .before .before .before .before .before .before .before .before .before .before .before .before .before .before .before .before .before .before .before .before .before .before .before .before .before .before .before .before .before .before .before .before .before .before .before .pre .2) (c .before .before .before .before .before .before .before .before .before .before .before .before .before .before .result-edges-into .ensures)) in
+    let given = c .before .before .before .before .before .before .before .before .before .before .before .before .before .before .before .before .before .before .before .before .before .before .before .before .before .before .before .before .before .before .before .before .before .before .before .before .before .pre .0 .2 in
+    let made = (made-by-processors (c .before .before .before .before .before .before .before .before .before .before .before .before .before .before .before .before .before .before .before .before .before .before .before .before .before .before .before .before .before .before .before .before .before .before .before .before .before .pre .0 .2) (c .before .before .before .before .before .before .before .before .before .before .before .before .before .before .result-edges-into .ensures)) in
     let more = proposed-fronts given in
     let room = c .before .before .before .before .before .paths-between-processors .ensures _ (result-circled given made) .room in
     ((more .as-many-sinks, omega (arith, more .as-many, given .formed .few), room), (processors-small given, proposed-ends given))
@@ -210,7 +210,7 @@ part-lost-order-start c = search needs
 
 part-lost-order-end : tie.Need-part-lost-order-end
 part-lost-order-end c =
-    graph-within (c .before .before .before .before .before .before .before .before .before .before .before .before .before .before .before .before .before .before .before .before .before .before .before .before .before .before .before .before .before .before .before .before .before .before .before .before .before .before .pre .2) .source
+    graph-within (c .before .before .before .before .before .before .before .before .before .before .before .before .before .before .before .before .before .before .before .before .before .before .before .before .before .before .before .before .before .before .before .before .before .before .before .before .before .before .before .pre .0 .2) .source
 
 sub-lost-order-2 : tie.Need-sub-lost-order-2
 sub-lost-order-2 c = search needs
@@ -220,7 +220,7 @@ part-lost-order-start-2 c = search needs
 
 part-lost-order-end-2 : tie.Need-part-lost-order-end-2
 part-lost-order-end-2 c =
-    graph-within (c .before .before .before .before .before .before .before .before .before .before .before .before .before .before .before .before .before .before .before .before .before .before .before .before .before .before .before .before .before .before .before .before .before .before .before .before .before .before .before .pre .2) .sink
+    graph-within (c .before .before .before .before .before .before .before .before .before .before .before .before .before .before .before .before .before .before .before .before .before .before .before .before .before .before .before .before .before .before .before .before .before .before .before .before .before .before .before .before .pre .0 .2) .sink
 
 sub-lost-order-3 : tie.Need-sub-lost-order-3
 sub-lost-order-3 c = search needs
@@ -230,7 +230,7 @@ part-lost-order-start-3 c = search needs
 
 part-lost-order-end-3 : tie.Need-part-lost-order-end-3
 part-lost-order-end-3 c =
-    graph-within (c .before .before .before .before .before .before .before .before .before .before .before .before .before .before .before .before .before .before .before .before .before .before .before .before .before .before .before .before .before .before .before .before .before .before .before .before .before .before .before .before .pre .2) .delay
+    graph-within (c .before .before .before .before .before .before .before .before .before .before .before .before .before .before .before .before .before .before .before .before .before .before .before .before .before .before .before .before .before .before .before .before .before .before .before .before .before .before .before .before .before .pre .0 .2) .delay
 
 sub-lost-order-4 : tie.Need-sub-lost-order-4
 sub-lost-order-4 c = search needs
@@ -240,7 +240,7 @@ part-lost-order-start-4 c = search needs
 
 part-lost-order-end-4 : tie.Need-part-lost-order-end-4
 part-lost-order-end-4 c =
-    result-within (c .before .before .before .before .before .before .before .before .before .before .before .before .before .before .before .before .before .before .before .before .before .before .before .before .before .before .before .before .before .before .before .before .before .before .before .before .before .before .before .before .before .before .pre .2) (made-by-processors (c .before .before .before .before .before .before .before .before .before .before .before .before .before .before .before .before .before .before .before .before .before .before .before .before .before .before .before .before .before .before .before .before .before .before .before .before .before .before .before .before .before .before .pre .2) (c .before .before .before .before .before .before .before .before .before .before .before .before .before .before .before .before .before .before .before .before .result-edges-into .ensures)) .0
+    result-within (c .before .before .before .before .before .before .before .before .before .before .before .before .before .before .before .before .before .before .before .before .before .before .before .before .before .before .before .before .before .before .before .before .before .before .before .before .before .before .before .before .before .before .before .pre .0 .2) (made-by-processors (c .before .before .before .before .before .before .before .before .before .before .before .before .before .before .before .before .before .before .before .before .before .before .before .before .before .before .before .before .before .before .before .before .before .before .before .before .before .before .before .before .before .before .before .pre .0 .2) (c .before .before .before .before .before .before .before .before .before .before .before .before .before .before .before .before .before .before .before .before .result-edges-into .ensures)) .0
 
 sub-lost-order-5 : tie.Need-sub-lost-order-5
 sub-lost-order-5 c = search needs
@@ -250,7 +250,7 @@ part-lost-order-start-5 c = search needs
 
 part-lost-order-end-5 : tie.Need-part-lost-order-end-5
 part-lost-order-end-5 c =
-    result-within (c .before .before .before .before .before .before .before .before .before .before .before .before .before .before .before .before .before .before .before .before .before .before .before .before .before .before .before .before .before .before .before .before .before .before .before .before .before .before .before .before .before .before .before .before .pre .2) (made-by-processors (c .before .before .before .before .before .before .before .before .before .before .before .before .before .before .before .before .before .before .before .before .before .before .before .before .before .before .before .before .before .before .before .before .before .before .before .before .before .before .before .before .before .before .before .before .pre .2) (c .before .before .before .before .before .before .before .before .before .before .before .before .before .before .before .before .before .before .before .before .before .before .result-edges-into .ensures)) .1
+    result-within (c .before .before .before .before .before .before .before .before .before .before .before .before .before .before .before .before .before .before .before .before .before .before .before .before .before .before .before .before .before .before .before .before .before .before .before .before .before .before .before .before .before .before .before .before .before .pre .0 .2) (made-by-processors (c .before .before .before .before .before .before .before .before .before .before .before .before .before .before .before .before .before .before .before .before .before .before .before .before .before .before .before .before .before .before .before .before .before .before .before .before .before .before .before .before .before .before .before .before .before .pre .0 .2) (c .before .before .before .before .before .before .before .before .before .before .before .before .before .before .before .before .before .before .before .before .before .before .result-edges-into .ensures)) .1
 
 sub-lost-order-6 : tie.Need-sub-lost-order-6
 sub-lost-order-6 c = search needs
@@ -260,18 +260,18 @@ part-lost-order-start-6 c = search needs
 
 part-lost-order-end-6 : tie.Need-part-lost-order-end-6
 part-lost-order-end-6 c =
-    result-within (c .before .before .before .before .before .before .before .before .before .before .before .before .before .before .before .before .before .before .before .before .before .before .before .before .before .before .before .before .before .before .before .before .before .before .before .before .before .before .before .before .before .before .before .before .before .before .pre .2) (made-by-processors (c .before .before .before .before .before .before .before .before .before .before .before .before .before .before .before .before .before .before .before .before .before .before .before .before .before .before .before .before .before .before .before .before .before .before .before .before .before .before .before .before .before .before .before .before .before .before .pre .2) (c .before .before .before .before .before .before .before .before .before .before .before .before .before .before .before .before .before .before .before .before .before .before .before .before .result-edges-into .ensures)) .2
+    result-within (c .before .before .before .before .before .before .before .before .before .before .before .before .before .before .before .before .before .before .before .before .before .before .before .before .before .before .before .before .before .before .before .before .before .before .before .before .before .before .before .before .before .before .before .before .before .before .before .pre .0 .2) (made-by-processors (c .before .before .before .before .before .before .before .before .before .before .before .before .before .before .before .before .before .before .before .before .before .before .before .before .before .before .before .before .before .before .before .before .before .before .before .before .before .before .before .before .before .before .before .before .before .before .before .pre .0 .2) (c .before .before .before .before .before .before .before .before .before .before .before .before .before .before .before .before .before .before .before .before .before .before .before .before .result-edges-into .ensures)) .2
 
 lost-order-requires : tie.Need-lost-order-requires
 lost-order-requires c κs =
-    let given = c .before .before .before .before .before .before .before .before .before .before .before .before .before .before .before .before .before .before .before .before .before .before .before .before .before .before .before .before .before .before .before .before .before .before .before .before .before .before .before .before .before .before .before .before .before .before .before .pre .2 in
-    let made = (made-by-processors (c .before .before .before .before .before .before .before .before .before .before .before .before .before .before .before .before .before .before .before .before .before .before .before .before .before .before .before .before .before .before .before .before .before .before .before .before .before .before .before .before .before .before .before .before .before .before .before .pre .2) (c .before .before .before .before .before .before .before .before .before .before .before .before .before .before .before .before .before .before .before .before .before .before .before .before .before .result-edges-into .ensures)) in
+    let given = c .before .before .before .before .before .before .before .before .before .before .before .before .before .before .before .before .before .before .before .before .before .before .before .before .before .before .before .before .before .before .before .before .before .before .before .before .before .before .before .before .before .before .before .before .before .before .before .before .pre .0 .2 in
+    let made = (made-by-processors (c .before .before .before .before .before .before .before .before .before .before .before .before .before .before .before .before .before .before .before .before .before .before .before .before .before .before .before .before .before .before .before .before .before .before .before .before .before .before .before .before .before .before .before .before .before .before .before .before .pre .0 .2) (c .before .before .before .before .before .before .before .before .before .before .before .before .before .before .before .before .before .before .before .before .before .before .before .before .before .result-edges-into .ensures)) in
     let held = graph-fronts given in (
       (held .as-many-sinks, held .as-many-delays),
       (
         (result-sinks given made, result-delays given made),
         (
-          (omega (arith, as-many-edges given), omega (arith, as-many-edges given, few-edges given), few-tasks given, few-proposed given),
+          (omega (arith, as-many-edges given), omega (arith, as-many-edges given, few-edges given), few-tasks given, few-proposed given, c .before .before .before .before .before .before .before .before .before .before .before .before .before .before .before .before .before .before .before .before .before .before .before .before .before .before .before .before .before .before .before .before .before .before .before .before .before .before .before .before .before .before .before .before .before .before .before .before .pre .1),
           (all-among given made, (original-fit given, held-fit given made)),
         ),
       ),
@@ -295,7 +295,7 @@ part-latency-start c = search needs
 
 part-latency-end : tie.Need-part-latency-end
 part-latency-end c =
-    result-within (c .before .before .before .before .before .before .before .before .before .before .before .before .before .before .before .before .before .before .before .before .before .before .before .before .before .before .before .before .before .before .before .before .before .before .before .before .before .before .before .before .before .before .before .before .before .before .before .before .before .before .before .pre .2) (made-by-processors (c .before .before .before .before .before .before .before .before .before .before .before .before .before .before .before .before .before .before .before .before .before .before .before .before .before .before .before .before .before .before .before .before .before .before .before .before .before .before .before .before .before .before .before .before .before .before .before .before .before .before .before .pre .2) (c .before .before .before .before .before .before .before .before .before .before .before .before .before .before .before .before .before .before .before .before .before .before .before .before .before .before .before .before .before .result-edges-into .ensures)) .0
+    result-within (c .before .before .before .before .before .before .before .before .before .before .before .before .before .before .before .before .before .before .before .before .before .before .before .before .before .before .before .before .before .before .before .before .before .before .before .before .before .before .before .before .before .before .before .before .before .before .before .before .before .before .before .before .pre .0 .2) (made-by-processors (c .before .before .before .before .before .before .before .before .before .before .before .before .before .before .before .before .before .before .before .before .before .before .before .before .before .before .before .before .before .before .before .before .before .before .before .before .before .before .before .before .before .before .before .before .before .before .before .before .before .before .before .before .pre .0 .2) (c .before .before .before .before .before .before .before .before .before .before .before .before .before .before .before .before .before .before .before .before .before .before .before .before .before .before .before .before .before .result-edges-into .ensures)) .0
 
 sub-latency-2 : tie.Need-sub-latency-2
 sub-latency-2 c = search needs
@@ -305,7 +305,7 @@ part-latency-start-2 c = search needs
 
 part-latency-end-2 : tie.Need-part-latency-end-2
 part-latency-end-2 c =
-    result-within (c .before .before .before .before .before .before .before .before .before .before .before .before .before .before .before .before .before .before .before .before .before .before .before .before .before .before .before .before .before .before .before .before .before .before .before .before .before .before .before .before .before .before .before .before .before .before .before .before .before .before .before .before .before .pre .2) (made-by-processors (c .before .before .before .before .before .before .before .before .before .before .before .before .before .before .before .before .before .before .before .before .before .before .before .before .before .before .before .before .before .before .before .before .before .before .before .before .before .before .before .before .before .before .before .before .before .before .before .before .before .before .before .before .before .pre .2) (c .before .before .before .before .before .before .before .before .before .before .before .before .before .before .before .before .before .before .before .before .before .before .before .before .before .before .before .before .before .before .before .result-edges-into .ensures)) .1
+    result-within (c .before .before .before .before .before .before .before .before .before .before .before .before .before .before .before .before .before .before .before .before .before .before .before .before .before .before .before .before .before .before .before .before .before .before .before .before .before .before .before .before .before .before .before .before .before .before .before .before .before .before .before .before .before .before .pre .0 .2) (made-by-processors (c .before .before .before .before .before .before .before .before .before .before .before .before .before .before .before .before .before .before .before .before .before .before .before .before .before .before .before .before .before .before .before .before .before .before .before .before .before .before .before .before .before .before .before .before .before .before .before .before .before .before .before .before .before .before .pre .0 .2) (c .before .before .before .before .before .before .before .before .before .before .before .before .before .before .before .before .before .before .before .before .before .before .before .before .before .before .before .before .before .before .before .result-edges-into .ensures)) .1
 
 sub-latency-3 : tie.Need-sub-latency-3
 sub-latency-3 c = search needs
@@ -315,7 +315,7 @@ part-latency-start-3 c = search needs
 
 part-latency-end-3 : tie.Need-part-latency-end-3
 part-latency-end-3 c =
-    result-within (c .before .before .before .before .before .before .before .before .before .before .before .before .before .before .before .before .before .before .before .before .before .before .before .before .before .before .before .before .before .before .before .before .before .before .before .before .before .before .before .before .before .before .before .before .before .before .before .before .before .before .before .before .before .before .before .pre .2) (made-by-processors (c .before .before .before .before .before .before .before .before .before .before .before .before .before .before .before .before .before .before .before .before .before .before .before .before .before .before .before .before .before .before .before .before .before .before .before .before .before .before .before .before .before .before .before .before .before .before .before .before .before .before .before .before .before .before .before .pre .2) (c .before .before .before .before .before .before .before .before .before .before .before .before .before .before .before .before .before .before .before .before .before .before .before .before .before .before .before .before .before .before .before .before .before .result-edges-into .ensures)) .2
+    result-within (c .before .before .before .before .before .before .before .before .before .before .before .before .before .before .before .before .before .before .before .before .before .before .before .before .before .before .before .before .before .before .before .before .before .before .before .before .before .before .before .before .before .before .before .before .before .before .before .before .before .before .before .before .before .before .before .before .pre .0 .2) (made-by-processors (c .before .before .before .before .before .before .before .before .before .before .before .before .before .before .before .before .before .before .before .before .before .before .before .before .before .before .before .before .before .before .before .before .before .before .before .before .before .before .before .before .before .before .before .before .before .before .before .before .before .before .before .before .before .before .before .before .pre .0 .2) (c .before .before .before .before .before .before .before .before .before .before .before .before .before .before .before .before .before .before .before .before .before .before .before .before .before .before .before .before .before .before .before .before .before .result-edges-into .ensures)) .2
 
 sub-latency-4 : tie.Need-sub-latency-4
 sub-latency-4 c = search needs
@@ -325,16 +325,16 @@ part-latency-start-4 c = search needs
 
 part-latency-end-4 : tie.Need-part-latency-end-4
 part-latency-end-4 c =
-    graph-within (c .before .before .before .before .before .before .before .before .before .before .before .before .before .before .before .before .before .before .before .before .before .before .before .before .before .before .before .before .before .before .before .before .before .before .before .before .before .before .before .before .before .before .before .before .before .before .before .before .before .before .before .before .before .before .before .before .pre .2) .time
+    graph-within (c .before .before .before .before .before .before .before .before .before .before .before .before .before .before .before .before .before .before .before .before .before .before .before .before .before .before .before .before .before .before .before .before .before .before .before .before .before .before .before .before .before .before .before .before .before .before .before .before .before .before .before .before .before .before .before .before .before .pre .0 .2) .time
 
 cast-latency : tie.Need-cast-latency
 cast-latency c =
-    let given = c .before .before .before .before .before .before .before .before .before .before .before .before .before .before .before .before .before .before .before .before .before .before .before .before .before .before .before .before .before .before .before .before .before .before .before .before .before .before .before .before .before .before .before .before .before .before .before .before .before .before .before .before .before .before .before .before .before .before .pre .2 in
+    let given = c .before .before .before .before .before .before .before .before .before .before .before .before .before .before .before .before .before .before .before .before .before .before .before .before .before .before .before .before .before .before .before .before .before .before .before .before .before .before .before .before .before .before .before .before .before .before .before .before .before .before .before .before .before .before .before .before .before .before .before .pre .0 .2 in
     omega (arith, output-there given, few-times given)
 
 latency-requires : tie.Need-latency-requires
 latency-requires c κs =
-    let given = c .before .before .before .before .before .before .before .before .before .before .before .before .before .before .before .before .before .before .before .before .before .before .before .before .before .before .before .before .before .before .before .before .before .before .before .before .before .before .before .before .before .before .before .before .before .before .before .before .before .before .before .before .before .before .before .before .before .before .pre .2 in
+    let given = c .before .before .before .before .before .before .before .before .before .before .before .before .before .before .before .before .before .before .before .before .before .before .before .before .before .before .before .before .before .before .before .before .before .before .before .before .before .before .before .before .before .before .before .before .before .before .before .before .before .before .before .before .before .before .before .before .before .before .before .pre .0 .2 in
     let made-on = c .before .before .before .before .before .before .before .before .before .before .before .before .before .before .before .before .before .before .before .before .before .before .before .before .before .before .before .before .before .before .before .before .before .before .before .before .result-edges-into .ensures in
     let reached = c .before .before .before .before .before .before .before .before .before .before .before .before .before .before .before .before .before .before .before .before .before .before .before .before .before .before .before .paths-between-processors .ensures in
     let found = c .before .before .before .before .before .before .before .before .before .before .before .before .before .before .before .before .before .before .before .before .before .cyclic-place .ensures in

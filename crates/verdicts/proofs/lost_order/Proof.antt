@@ -11,12 +11,12 @@ use Rattle.verdicts.proofs.lost_order.Tie as tie
 
 add-if1 : tie.Need-add-if1
 add-if1 c =
-    omega (arith, c .before .before .before .before .before .before .pre .1 .1 .0 .1, c .before .before .before .before .before .before .pre .1 .1 .0 .3)
+    omega (arith, c .before .before .before .before .before .before .before .pre .1 .1 .0 .1, c .before .before .before .before .before .before .before .pre .1 .1 .0 .3)
 
 returns : tie.Need-returns
 returns c =
-    let args = c .before .before .before .before .before .before .before .args in
-    let asked = c .before .before .before .before .before .before .before .pre in
+    let args = c .before .before .before .before .before .before .before .before .args in
+    let asked = c .before .before .before .before .before .before .before .before .pre in
     none-lost-among (asked .1 .1 .0 .2) (args .source .now) (args .sink .now) (args .delay .now) (edgesOf (args .result-source .now) (args .result-sink .now) (args .result-delay .now)) (asked .1 .1 .1 .1 .0) (asked .1 .1 .1 .1 .1 .ends) (asked .1 .1 .1 .0 (c .if1 .taken))
 
 slice-aggregate-lost-by : tie.Need-slice-aggregate-lost-by
@@ -24,9 +24,9 @@ slice-aggregate-lost-by c = search needs
 
 lost-by-requires : tie.Need-lost-by-requires
 lost-by-requires c κs =
-    let asked = c .before .before .before .before .before .before .before .before .before .pre in
+    let asked = c .before .before .before .before .before .before .before .before .before .before .pre in
     let few = c .before .if2 .taken in
-    (asked .0, (asked .1 .0, ((asked .1 .1 .0 .0, asked .1 .1 .0 .1, asked .1 .1 .0 .2), ((mul-le-mul few few, refl), (asked .1 .1 .1 .1 .0, asked .1 .1 .1 .1 .1)))))
+    (asked .0, (asked .1 .0, ((asked .1 .1 .0 .0, asked .1 .1 .0 .1, asked .1 .1 .0 .2, asked .1 .1 .0 .4), ((mul-le-mul few few, refl), (asked .1 .1 .1 .1 .0, asked .1 .1 .1 .1 .1)))))
 
 returns-2 : tie.Need-returns-2
 returns-2 c = c .before .lost-by .ensures
@@ -36,9 +36,9 @@ slice-aggregate-lost-by-2 c = search needs
 
 lost-by-requires-2 : tie.Need-lost-by-requires-2
 lost-by-requires-2 c κs =
-    let asked = c .before .before .before .before .before .before .before .before .before .pre in
+    let asked = c .before .before .before .before .before .before .before .before .before .before .pre in
     let few = asked .1 .1 .0 .2 in
-    (asked .0, (asked .1 .0, ((asked .1 .1 .0 .0, asked .1 .1 .0 .1, few), ((omega (arith, product-small _ _ few few), refl), (asked .1 .1 .1 .1 .0, asked .1 .1 .1 .1 .1)))))
+    (asked .0, (asked .1 .0, ((asked .1 .1 .0 .0, asked .1 .1 .0 .1, few, asked .1 .1 .0 .4), ((omega (arith, product-small _ _ few few), refl), (asked .1 .1 .1 .1 .0, asked .1 .1 .1 .1 .1)))))
 
 returns-3 : tie.Need-returns-3
 returns-3 c = c .before .lost-by2 .ensures

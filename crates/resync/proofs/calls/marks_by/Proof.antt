@@ -9,12 +9,12 @@ use Rattle.resync.proofs.calls.marks_by.Tie as tie
 
 least-table-requires : tie.Need-least-table-requires
 least-table-requires c κs =
-    let asked = c .before .before .before .before .before .pre in
-    (asked .0, ((asked .1 .0 .0, asked .1 .0 .2), asked .1 .1))
+    let asked = c .before .before .before .before .before .before .pre in
+    (asked .0, ((asked .1 .0 .0, asked .1 .0 .2, asked .1 .0 .3), asked .1 .1))
 
 mul-redundant-marks : tie.Need-mul-redundant-marks
 mul-redundant-marks c =
-    let few = c .before .before .before .before .before .before .before .before .pre .1 .0 .0 in
+    let few = c .before .before .before .before .before .before .before .before .before .pre .1 .0 .0 in
     record { fits = omega (arith, product-small _ _ few few) }
 
 sub-redundant-marks : tie.Need-sub-redundant-marks
@@ -25,13 +25,13 @@ part-redundant-marks-start c = search needs
 
 part-redundant-marks-end : tie.Need-part-redundant-marks-end
 part-redundant-marks-end c =
-    let args = c .before .before .before .before .before .before .before .before .before .args in
+    let args = c .before .before .before .before .before .before .before .before .before .before .args in
     table-room (args .tasks) (edgesOf (args .source .now) (args .sink .now) (args .delay .now)) _ (c .before .before .before .least-table .ensures)
 
 redundant-marks-requires : tie.Need-redundant-marks-requires
 redundant-marks-requires c κs =
-    let args = c .before .before .before .before .before .before .before .before .before .before .args in
-    let asked = c .before .before .before .before .before .before .before .before .before .before .pre in
+    let args = c .before .before .before .before .before .before .before .before .before .before .before .args in
+    let asked = c .before .before .before .before .before .before .before .before .before .before .before .pre in
     (asked .0, ((asked .1 .0 .0, asked .1 .0 .1), (asked .1 .1, table-front (args .tasks) (edgesOf (args .source .now) (args .sink .now) (args .delay .now)) _ (c .before .before .before .before .least-table .ensures))))
 
 same-length : tie.Need-same-length

@@ -11,9 +11,9 @@ slice-aggregate-marks-by c = search needs
 
 marks-by-requires : tie.Need-marks-by-requires
 marks-by-requires c κs =
-    let asked = c .before .before .before .before .before .pre in
+    let asked = c .before .before .before .before .before .before .pre in
     let few = c .before .if1 .taken in
-    (asked .0, ((asked .1 .0 .0, asked .1 .0 .1, mul-le-mul few few), asked .1 .1))
+    (asked .0, ((asked .1 .0 .0, asked .1 .0 .1, mul-le-mul few few, asked .1 .0 .2), asked .1 .1))
 
 returns : tie.Need-returns
 returns c = c .before .marks-by .ensures
@@ -23,9 +23,9 @@ slice-aggregate-marks-by-2 c = search needs
 
 marks-by-requires-2 : tie.Need-marks-by-requires-2
 marks-by-requires-2 c κs =
-    let asked = c .before .before .before .before .before .pre in
+    let asked = c .before .before .before .before .before .before .pre in
     let few = asked .1 .0 .0 in
-    (asked .0, ((few, asked .1 .0 .1, omega (arith, product-small _ _ few few)), asked .1 .1))
+    (asked .0, ((few, asked .1 .0 .1, omega (arith, product-small _ _ few few), asked .1 .0 .2), asked .1 .1))
 
 returns-2 : tie.Need-returns-2
 returns-2 c = c .before .marks-by2 .ensures

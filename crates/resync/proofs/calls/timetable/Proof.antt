@@ -48,17 +48,20 @@ slice-aggregate-accept-into-4 c = search needs
 slice-aggregate-accept-into-5 : tie.Need-slice-aggregate-accept-into-5
 slice-aggregate-accept-into-5 c = search needs
 
+slice-aggregate-accept-into-6 : tie.Need-slice-aggregate-accept-into-6
+slice-aggregate-accept-into-6 c = search needs
+
 accept-into-requires : tie.Need-accept-into-requires
 unfolding zeros
-accept-into-requires c κs = ((refl, refl), (refl, refl, refl))
+accept-into-requires c κs = ((refl, refl, refl), (refl, refl, refl))
 
 cast-tasks : tie.Need-cast-tasks
 cast-tasks c = search needs
 
 mul-with-room : tie.Need-mul-with-room
 mul-with-room c =
-    let few = few-tasks ((c .before .before .before .before .before .before .before .before .before .before .before .before .before .before .before .before .before .before .args .graph .now)) ((c .before .before .before .before .before .before .before .accept-into .ensures)) in
-    let known = turns-known ((c .before .before .before .before .before .before .before .before .before .before .before .before .before .before .before .before .before .before .args .turns)) (number-same (sym ((c .before .before .before .before .before .before .before .before .before .before .before .before .before .before .before .check-turns .ensures))) ∙ (c .before .before .before .before .before .before .before .before .before .before .before .before .before .if1 .left)) in
+    let few = few-tasks ((c .before .before .before .before .before .before .before .before .before .before .before .before .before .before .before .before .before .before .before .before .args .graph .now)) ((c .before .before .before .before .before .before .before .before .accept-into .ensures)) in
+    let known = turns-known ((c .before .before .before .before .before .before .before .before .before .before .before .before .before .before .before .before .before .before .before .before .args .turns)) (number-same (sym ((c .before .before .before .before .before .before .before .before .before .before .before .before .before .before .before .before .before .check-turns .ensures))) ∙ (c .before .before .before .before .before .before .before .before .before .before .before .before .before .before .before .if1 .left)) in
     record { fits = omega (arith, product-small _ _ few few, product-small _ _ few (known .1)) }
 
 with-room-requires : tie.Need-with-room-requires
@@ -69,12 +72,12 @@ told-requires-2 c κs = search needs
 
 returns-2 : tie.Need-returns-2
 returns-2 c =
-    let s = (c .before .before .before .before .before .before .before .before .before .before .before .before .before .before .before .before .before .before .before .before .before .before .args .graph .now) in
-    let turns = (c .before .before .before .before .before .before .before .before .before .before .before .before .before .before .before .before .before .before .before .before .before .before .args .turns) in
-    let starts = (c .before .before .before .before .before .before .before .before .before .before .before .before .before .before .before .before .before .before .before .before .before .before .args .starts .now) in
-    let inside = (c .before .before .before .before .before .before .before .before .before .before .before .before .before .before .before .before .before .before .before .check-turns .ensures) in
-    let go-on = (c .before .before .before .before .before .before .before .before .before .before .before .before .before .before .before .before .before .if1 .left) in
-    let is = (c .before .before .before .before .before .before .before .before .before .before .before .accept-into .ensures) in
+    let s = (c .before .before .before .before .before .before .before .before .before .before .before .before .before .before .before .before .before .before .before .before .before .before .before .before .args .graph .now) in
+    let turns = (c .before .before .before .before .before .before .before .before .before .before .before .before .before .before .before .before .before .before .before .before .before .before .before .before .args .turns) in
+    let starts = (c .before .before .before .before .before .before .before .before .before .before .before .before .before .before .before .before .before .before .before .before .before .before .before .before .args .starts .now) in
+    let inside = (c .before .before .before .before .before .before .before .before .before .before .before .before .before .before .before .before .before .before .before .before .before .check-turns .ensures) in
+    let go-on = (c .before .before .before .before .before .before .before .before .before .before .before .before .before .before .before .before .before .before .before .if1 .left) in
+    let is = (c .before .before .before .before .before .before .before .before .before .before .before .before .accept-into .ensures) in
     let checked = (c .before .before .before .with-room .ensures) in (
       timetable-told s is turns starts inside go-on checked ((c .told2 .ensures)),
       timetable-kept s is turns starts inside go-on checked ((c .before .if2 .taken)),
@@ -100,12 +103,12 @@ slice-aggregate-keep-strongest-4 c = search needs
 
 keep-strongest-requires : tie.Need-keep-strongest-requires
 keep-strongest-requires c κs =
-    let s = (c .before .before .before .before .before .before .before .before .before .before .before .before .before .before .before .before .before .before .before .before .before .before .before .before .before .before .args .graph .now) in
-    let turns = (c .before .before .before .before .before .before .before .before .before .before .before .before .before .before .before .before .before .before .before .before .before .before .before .before .before .before .args .turns) in
-    let starts = (c .before .before .before .before .before .before .before .before .before .before .before .before .before .before .before .before .before .before .before .before .before .before .before .before .before .before .args .starts .now) in
-    let inside = (c .before .before .before .before .before .before .before .before .before .before .before .before .before .before .before .before .before .before .before .before .before .before .before .check-turns .ensures) in
-    let go-on = (c .before .before .before .before .before .before .before .before .before .before .before .before .before .before .before .before .before .before .before .before .before .if1 .left) in
-    let is = (c .before .before .before .before .before .before .before .before .before .before .before .before .before .before .before .accept-into .ensures) in
+    let s = (c .before .before .before .before .before .before .before .before .before .before .before .before .before .before .before .before .before .before .before .before .before .before .before .before .before .before .before .before .args .graph .now) in
+    let turns = (c .before .before .before .before .before .before .before .before .before .before .before .before .before .before .before .before .before .before .before .before .before .before .before .before .before .before .before .before .args .turns) in
+    let starts = (c .before .before .before .before .before .before .before .before .before .before .before .before .before .before .before .before .before .before .before .before .before .before .before .before .before .before .before .before .args .starts .now) in
+    let inside = (c .before .before .before .before .before .before .before .before .before .before .before .before .before .before .before .before .before .before .before .before .before .before .before .before .before .check-turns .ensures) in
+    let go-on = (c .before .before .before .before .before .before .before .before .before .before .before .before .before .before .before .before .before .before .before .before .before .before .before .if1 .left) in
+    let is = (c .before .before .before .before .before .before .before .before .before .before .before .before .before .before .before .before .accept-into .ensures) in
     let checked = (c .before .before .before .before .before .before .before .with-room .ensures) in
     let fits = timetable-room s is turns starts inside go-on checked ((c .before .before .before .before .before .if2 .left)) in
     read-pairs s is (fits .0)
@@ -118,12 +121,12 @@ part-turns-into-start c = search needs
 
 part-turns-into-end : tie.Need-part-turns-into-end
 part-turns-into-end c =
-    let s = (c .before .before .before .before .before .before .before .before .before .before .before .before .before .before .before .before .before .before .before .before .before .before .before .before .before .before .before .before .before .before .before .args .graph .now) in
-    let turns = (c .before .before .before .before .before .before .before .before .before .before .before .before .before .before .before .before .before .before .before .before .before .before .before .before .before .before .before .before .before .before .before .args .turns) in
-    let starts = (c .before .before .before .before .before .before .before .before .before .before .before .before .before .before .before .before .before .before .before .before .before .before .before .before .before .before .before .before .before .before .before .args .starts .now) in
-    let inside = (c .before .before .before .before .before .before .before .before .before .before .before .before .before .before .before .before .before .before .before .before .before .before .before .before .before .before .before .before .check-turns .ensures) in
-    let go-on = (c .before .before .before .before .before .before .before .before .before .before .before .before .before .before .before .before .before .before .before .before .before .before .before .before .before .before .if1 .left) in
-    let is = (c .before .before .before .before .before .before .before .before .before .before .before .before .before .before .before .before .before .before .before .before .accept-into .ensures) in
+    let s = (c .before .before .before .before .before .before .before .before .before .before .before .before .before .before .before .before .before .before .before .before .before .before .before .before .before .before .before .before .before .before .before .before .before .args .graph .now) in
+    let turns = (c .before .before .before .before .before .before .before .before .before .before .before .before .before .before .before .before .before .before .before .before .before .before .before .before .before .before .before .before .before .before .before .before .before .args .turns) in
+    let starts = (c .before .before .before .before .before .before .before .before .before .before .before .before .before .before .before .before .before .before .before .before .before .before .before .before .before .before .before .before .before .before .before .before .before .args .starts .now) in
+    let inside = (c .before .before .before .before .before .before .before .before .before .before .before .before .before .before .before .before .before .before .before .before .before .before .before .before .before .before .before .before .before .before .check-turns .ensures) in
+    let go-on = (c .before .before .before .before .before .before .before .before .before .before .before .before .before .before .before .before .before .before .before .before .before .before .before .before .before .before .before .before .if1 .left) in
+    let is = (c .before .before .before .before .before .before .before .before .before .before .before .before .before .before .before .before .before .before .before .before .before .accept-into .ensures) in
     let checked = (c .before .before .before .before .before .before .before .before .before .before .before .before .with-room .ensures) in
     let fits = timetable-room s is turns starts inside go-on checked ((c .before .before .before .before .before .before .before .before .before .before .if2 .left)) in
     left-source s is (fits .0) ((c .before .before .before .before .keep-strongest .ensures))
@@ -136,12 +139,12 @@ part-turns-into-start-2 c = search needs
 
 part-turns-into-end-2 : tie.Need-part-turns-into-end-2
 part-turns-into-end-2 c =
-    let s = (c .before .before .before .before .before .before .before .before .before .before .before .before .before .before .before .before .before .before .before .before .before .before .before .before .before .before .before .before .before .before .before .before .before .args .graph .now) in
-    let turns = (c .before .before .before .before .before .before .before .before .before .before .before .before .before .before .before .before .before .before .before .before .before .before .before .before .before .before .before .before .before .before .before .before .before .args .turns) in
-    let starts = (c .before .before .before .before .before .before .before .before .before .before .before .before .before .before .before .before .before .before .before .before .before .before .before .before .before .before .before .before .before .before .before .before .before .args .starts .now) in
-    let inside = (c .before .before .before .before .before .before .before .before .before .before .before .before .before .before .before .before .before .before .before .before .before .before .before .before .before .before .before .before .before .before .check-turns .ensures) in
-    let go-on = (c .before .before .before .before .before .before .before .before .before .before .before .before .before .before .before .before .before .before .before .before .before .before .before .before .before .before .before .before .if1 .left) in
-    let is = (c .before .before .before .before .before .before .before .before .before .before .before .before .before .before .before .before .before .before .before .before .before .before .accept-into .ensures) in
+    let s = (c .before .before .before .before .before .before .before .before .before .before .before .before .before .before .before .before .before .before .before .before .before .before .before .before .before .before .before .before .before .before .before .before .before .before .before .args .graph .now) in
+    let turns = (c .before .before .before .before .before .before .before .before .before .before .before .before .before .before .before .before .before .before .before .before .before .before .before .before .before .before .before .before .before .before .before .before .before .before .before .args .turns) in
+    let starts = (c .before .before .before .before .before .before .before .before .before .before .before .before .before .before .before .before .before .before .before .before .before .before .before .before .before .before .before .before .before .before .before .before .before .before .before .args .starts .now) in
+    let inside = (c .before .before .before .before .before .before .before .before .before .before .before .before .before .before .before .before .before .before .before .before .before .before .before .before .before .before .before .before .before .before .before .before .check-turns .ensures) in
+    let go-on = (c .before .before .before .before .before .before .before .before .before .before .before .before .before .before .before .before .before .before .before .before .before .before .before .before .before .before .before .before .before .before .if1 .left) in
+    let is = (c .before .before .before .before .before .before .before .before .before .before .before .before .before .before .before .before .before .before .before .before .before .before .before .accept-into .ensures) in
     let checked = (c .before .before .before .before .before .before .before .before .before .before .before .before .before .before .with-room .ensures) in
     let fits = timetable-room s is turns starts inside go-on checked ((c .before .before .before .before .before .before .before .before .before .before .before .before .if2 .left)) in
     left-sink s is (fits .0) ((c .before .before .before .before .before .before .keep-strongest .ensures))
@@ -154,12 +157,12 @@ part-turns-into-start-3 c = search needs
 
 part-turns-into-end-3 : tie.Need-part-turns-into-end-3
 part-turns-into-end-3 c =
-    let s = (c .before .before .before .before .before .before .before .before .before .before .before .before .before .before .before .before .before .before .before .before .before .before .before .before .before .before .before .before .before .before .before .before .before .before .before .args .graph .now) in
-    let turns = (c .before .before .before .before .before .before .before .before .before .before .before .before .before .before .before .before .before .before .before .before .before .before .before .before .before .before .before .before .before .before .before .before .before .before .before .args .turns) in
-    let starts = (c .before .before .before .before .before .before .before .before .before .before .before .before .before .before .before .before .before .before .before .before .before .before .before .before .before .before .before .before .before .before .before .before .before .before .before .args .starts .now) in
-    let inside = (c .before .before .before .before .before .before .before .before .before .before .before .before .before .before .before .before .before .before .before .before .before .before .before .before .before .before .before .before .before .before .before .before .check-turns .ensures) in
-    let go-on = (c .before .before .before .before .before .before .before .before .before .before .before .before .before .before .before .before .before .before .before .before .before .before .before .before .before .before .before .before .before .before .if1 .left) in
-    let is = (c .before .before .before .before .before .before .before .before .before .before .before .before .before .before .before .before .before .before .before .before .before .before .before .before .accept-into .ensures) in
+    let s = (c .before .before .before .before .before .before .before .before .before .before .before .before .before .before .before .before .before .before .before .before .before .before .before .before .before .before .before .before .before .before .before .before .before .before .before .before .before .args .graph .now) in
+    let turns = (c .before .before .before .before .before .before .before .before .before .before .before .before .before .before .before .before .before .before .before .before .before .before .before .before .before .before .before .before .before .before .before .before .before .before .before .before .before .args .turns) in
+    let starts = (c .before .before .before .before .before .before .before .before .before .before .before .before .before .before .before .before .before .before .before .before .before .before .before .before .before .before .before .before .before .before .before .before .before .before .before .before .before .args .starts .now) in
+    let inside = (c .before .before .before .before .before .before .before .before .before .before .before .before .before .before .before .before .before .before .before .before .before .before .before .before .before .before .before .before .before .before .before .before .before .before .check-turns .ensures) in
+    let go-on = (c .before .before .before .before .before .before .before .before .before .before .before .before .before .before .before .before .before .before .before .before .before .before .before .before .before .before .before .before .before .before .before .before .if1 .left) in
+    let is = (c .before .before .before .before .before .before .before .before .before .before .before .before .before .before .before .before .before .before .before .before .before .before .before .before .before .accept-into .ensures) in
     let checked = (c .before .before .before .before .before .before .before .before .before .before .before .before .before .before .before .before .with-room .ensures) in
     let fits = timetable-room s is turns starts inside go-on checked ((c .before .before .before .before .before .before .before .before .before .before .before .before .before .before .if2 .left)) in
     left-delay s is (fits .0) ((c .before .before .before .before .before .before .before .before .keep-strongest .ensures))
@@ -172,31 +175,31 @@ part-turns-into-start-4 c = search needs
 
 part-turns-into-end-4 : tie.Need-part-turns-into-end-4
 part-turns-into-end-4 c =
-    let s = (c .before .before .before .before .before .before .before .before .before .before .before .before .before .before .before .before .before .before .before .before .before .before .before .before .before .before .before .before .before .before .before .before .before .before .before .before .before .args .graph .now) in
-    let turns = (c .before .before .before .before .before .before .before .before .before .before .before .before .before .before .before .before .before .before .before .before .before .before .before .before .before .before .before .before .before .before .before .before .before .before .before .before .before .args .turns) in
-    let starts = (c .before .before .before .before .before .before .before .before .before .before .before .before .before .before .before .before .before .before .before .before .before .before .before .before .before .before .before .before .before .before .before .before .before .before .before .before .before .args .starts .now) in
-    let inside = (c .before .before .before .before .before .before .before .before .before .before .before .before .before .before .before .before .before .before .before .before .before .before .before .before .before .before .before .before .before .before .before .before .before .before .check-turns .ensures) in
-    let go-on = (c .before .before .before .before .before .before .before .before .before .before .before .before .before .before .before .before .before .before .before .before .before .before .before .before .before .before .before .before .before .before .before .before .if1 .left) in
-    let is = (c .before .before .before .before .before .before .before .before .before .before .before .before .before .before .before .before .before .before .before .before .before .before .before .before .before .before .accept-into .ensures) in
+    let s = (c .before .before .before .before .before .before .before .before .before .before .before .before .before .before .before .before .before .before .before .before .before .before .before .before .before .before .before .before .before .before .before .before .before .before .before .before .before .before .before .args .graph .now) in
+    let turns = (c .before .before .before .before .before .before .before .before .before .before .before .before .before .before .before .before .before .before .before .before .before .before .before .before .before .before .before .before .before .before .before .before .before .before .before .before .before .before .before .args .turns) in
+    let starts = (c .before .before .before .before .before .before .before .before .before .before .before .before .before .before .before .before .before .before .before .before .before .before .before .before .before .before .before .before .before .before .before .before .before .before .before .before .before .before .before .args .starts .now) in
+    let inside = (c .before .before .before .before .before .before .before .before .before .before .before .before .before .before .before .before .before .before .before .before .before .before .before .before .before .before .before .before .before .before .before .before .before .before .before .before .check-turns .ensures) in
+    let go-on = (c .before .before .before .before .before .before .before .before .before .before .before .before .before .before .before .before .before .before .before .before .before .before .before .before .before .before .before .before .before .before .before .before .before .before .if1 .left) in
+    let is = (c .before .before .before .before .before .before .before .before .before .before .before .before .before .before .before .before .before .before .before .before .before .before .before .before .before .before .before .accept-into .ensures) in
     let checked = (c .before .before .before .before .before .before .before .before .before .before .before .before .before .before .before .before .before .before .with-room .ensures) in
     let fits = timetable-room s is turns starts inside go-on checked ((c .before .before .before .before .before .before .before .before .before .before .before .before .before .before .before .before .if2 .left)) in
     lists-within s is (fits .0) .time
 
 turns-into-requires : tie.Need-turns-into-requires
 turns-into-requires c κs =
-    let s = (c .before .before .before .before .before .before .before .before .before .before .before .before .before .before .before .before .before .before .before .before .before .before .before .before .before .before .before .before .before .before .before .before .before .before .before .before .before .before .before .args .graph .now) in
-    let turns = (c .before .before .before .before .before .before .before .before .before .before .before .before .before .before .before .before .before .before .before .before .before .before .before .before .before .before .before .before .before .before .before .before .before .before .before .before .before .before .before .args .turns) in
-    let starts = (c .before .before .before .before .before .before .before .before .before .before .before .before .before .before .before .before .before .before .before .before .before .before .before .before .before .before .before .before .before .before .before .before .before .before .before .before .before .before .before .args .starts .now) in
-    let inside = (c .before .before .before .before .before .before .before .before .before .before .before .before .before .before .before .before .before .before .before .before .before .before .before .before .before .before .before .before .before .before .before .before .before .before .before .before .check-turns .ensures) in
-    let go-on = (c .before .before .before .before .before .before .before .before .before .before .before .before .before .before .before .before .before .before .before .before .before .before .before .before .before .before .before .before .before .before .before .before .before .before .if1 .left) in
-    let is = (c .before .before .before .before .before .before .before .before .before .before .before .before .before .before .before .before .before .before .before .before .before .before .before .before .before .before .before .before .accept-into .ensures) in
+    let s = (c .before .before .before .before .before .before .before .before .before .before .before .before .before .before .before .before .before .before .before .before .before .before .before .before .before .before .before .before .before .before .before .before .before .before .before .before .before .before .before .before .before .args .graph .now) in
+    let turns = (c .before .before .before .before .before .before .before .before .before .before .before .before .before .before .before .before .before .before .before .before .before .before .before .before .before .before .before .before .before .before .before .before .before .before .before .before .before .before .before .before .before .args .turns) in
+    let starts = (c .before .before .before .before .before .before .before .before .before .before .before .before .before .before .before .before .before .before .before .before .before .before .before .before .before .before .before .before .before .before .before .before .before .before .before .before .before .before .before .before .before .args .starts .now) in
+    let inside = (c .before .before .before .before .before .before .before .before .before .before .before .before .before .before .before .before .before .before .before .before .before .before .before .before .before .before .before .before .before .before .before .before .before .before .before .before .before .before .check-turns .ensures) in
+    let go-on = (c .before .before .before .before .before .before .before .before .before .before .before .before .before .before .before .before .before .before .before .before .before .before .before .before .before .before .before .before .before .before .before .before .before .before .before .before .if1 .left) in
+    let is = (c .before .before .before .before .before .before .before .before .before .before .before .before .before .before .before .before .before .before .before .before .before .before .before .before .before .before .before .before .before .accept-into .ensures) in
     let checked = (c .before .before .before .before .before .before .before .before .before .before .before .before .before .before .before .before .before .before .before .before .with-room .ensures) in
     let fits = timetable-room s is turns starts inside go-on checked ((c .before .before .before .before .before .before .before .before .before .before .before .before .before .before .before .before .before .before .if2 .left)) in
     let held = read-fronts s is (fits .0) in
     let well = well-formed s is (fits .0) in
     let g = graphOf s in
-    let lists = (c .before .before .before .before .before .before .before .before .before .before .before .before .before .before .before .before .before .before .before .before .before .before .before .before .before .before .before .before .accept-into .last) in
-    let reading = graphFrom ((c .before .before .before .before .before .before .before .before .before .before .before .before .before .before .before .before .before .before .before .before .before .before .before .before .before .before .before .before .accept-into .result .numbers)) (lists .1 .0) (lists .1 .1 .0) (lists .1 .1 .1 .0) (lists .1 .1 .1 .1 .0) (lists .1 .1 .1 .1 .1 .0) in
+    let lists = (c .before .before .before .before .before .before .before .before .before .before .before .before .before .before .before .before .before .before .before .before .before .before .before .before .before .before .before .before .before .accept-into .last) in
+    let reading = graphFrom ((c .before .before .before .before .before .before .before .before .before .before .before .before .before .before .before .before .before .before .before .before .before .before .before .before .before .before .before .before .before .accept-into .result .numbers)) (lists .1 .0) (lists .1 .1 .0) (lists .1 .1 .1 .0) (lists .1 .1 .1 .1 .0) (lists .1 .1 .1 .1 .1 .0) in
     let n = length (front (reading .tasks) (reading .time)) in
     let as-many : n ≡ count g = held .as-many-times in
     let known = turns-known turns (number-same (sym inside) ∙ go-on) in
@@ -223,16 +226,16 @@ same-length c = search needs
 
 returns-3 : tie.Need-returns-3
 returns-3 c =
-    let s = (c .before .before .before .before .before .before .before .before .before .before .before .before .before .before .before .before .before .before .before .before .before .before .before .before .before .before .before .before .before .before .before .before .before .before .before .before .before .before .before .before .before .before .before .args .graph .now) in
-    let turns = (c .before .before .before .before .before .before .before .before .before .before .before .before .before .before .before .before .before .before .before .before .before .before .before .before .before .before .before .before .before .before .before .before .before .before .before .before .before .before .before .before .before .before .before .args .turns) in
-    let starts = (c .before .before .before .before .before .before .before .before .before .before .before .before .before .before .before .before .before .before .before .before .before .before .before .before .before .before .before .before .before .before .before .before .before .before .before .before .before .before .before .before .before .before .before .args .starts .now) in
-    let inside = (c .before .before .before .before .before .before .before .before .before .before .before .before .before .before .before .before .before .before .before .before .before .before .before .before .before .before .before .before .before .before .before .before .before .before .before .before .before .before .before .before .check-turns .ensures) in
-    let go-on = (c .before .before .before .before .before .before .before .before .before .before .before .before .before .before .before .before .before .before .before .before .before .before .before .before .before .before .before .before .before .before .before .before .before .before .before .before .before .before .if1 .left) in
-    let is = (c .before .before .before .before .before .before .before .before .before .before .before .before .before .before .before .before .before .before .before .before .before .before .before .before .before .before .before .before .before .before .before .before .accept-into .ensures) in
+    let s = (c .before .before .before .before .before .before .before .before .before .before .before .before .before .before .before .before .before .before .before .before .before .before .before .before .before .before .before .before .before .before .before .before .before .before .before .before .before .before .before .before .before .before .before .before .before .args .graph .now) in
+    let turns = (c .before .before .before .before .before .before .before .before .before .before .before .before .before .before .before .before .before .before .before .before .before .before .before .before .before .before .before .before .before .before .before .before .before .before .before .before .before .before .before .before .before .before .before .before .before .args .turns) in
+    let starts = (c .before .before .before .before .before .before .before .before .before .before .before .before .before .before .before .before .before .before .before .before .before .before .before .before .before .before .before .before .before .before .before .before .before .before .before .before .before .before .before .before .before .before .before .before .before .args .starts .now) in
+    let inside = (c .before .before .before .before .before .before .before .before .before .before .before .before .before .before .before .before .before .before .before .before .before .before .before .before .before .before .before .before .before .before .before .before .before .before .before .before .before .before .before .before .before .before .check-turns .ensures) in
+    let go-on = (c .before .before .before .before .before .before .before .before .before .before .before .before .before .before .before .before .before .before .before .before .before .before .before .before .before .before .before .before .before .before .before .before .before .before .before .before .before .before .before .before .if1 .left) in
+    let is = (c .before .before .before .before .before .before .before .before .before .before .before .before .before .before .before .before .before .before .before .before .before .before .before .before .before .before .before .before .before .before .before .before .before .accept-into .ensures) in
     let checked = (c .before .before .before .before .before .before .before .before .before .before .before .before .before .before .before .before .before .before .before .before .before .before .before .before .with-room .ensures) in
     let fits = timetable-room s is turns starts inside go-on checked ((c .before .before .before .before .before .before .before .before .before .before .before .before .before .before .before .before .before .before .before .before .before .before .if2 .left)) in
-    let lists = (c .before .before .before .before .before .before .before .before .before .before .before .before .before .before .before .before .before .before .before .before .before .before .before .before .before .before .before .before .before .before .before .before .accept-into .last) in
-    let reading = graphFrom ((c .before .before .before .before .before .before .before .before .before .before .before .before .before .before .before .before .before .before .before .before .before .before .before .before .before .before .before .before .before .before .before .before .accept-into .result .numbers)) (lists .1 .0) (lists .1 .1 .0) (lists .1 .1 .1 .0) (lists .1 .1 .1 .1 .0) (lists .1 .1 .1 .1 .1 .0) in
+    let lists = (c .before .before .before .before .before .before .before .before .before .before .before .before .before .before .before .before .before .before .before .before .before .before .before .before .before .before .before .before .before .before .before .before .before .accept-into .last) in
+    let reading = graphFrom ((c .before .before .before .before .before .before .before .before .before .before .before .before .before .before .before .before .before .before .before .before .before .before .before .before .before .before .before .before .before .before .before .before .before .accept-into .result .numbers)) (lists .1 .0) (lists .1 .1 .0) (lists .1 .1 .1 .0) (lists .1 .1 .1 .1 .0) (lists .1 .1 .1 .1 .1 .0) in
     let n = length (front (reading .tasks) (reading .time)) in
     let same = left-rows s is (fits .0) ((c .before .before .before .before .before .before .before .before .before .before .before .before .before .before .before .before .keep-strongest .ensures)) turns in (
       timetable-told s is turns starts inside go-on checked ((c .told3 .ensures)),
@@ -252,6 +255,7 @@ timetable-spec =
     slice-aggregate-accept-into-3
     slice-aggregate-accept-into-4
     slice-aggregate-accept-into-5
+    slice-aggregate-accept-into-6
     accept-into-requires
     cast-tasks
     mul-with-room

@@ -1,0 +1,85 @@
+-- `counts::row_below` meets its contract: after b steps the first b delays are tested.
+use mathlib.Core.Path.{_≡_, sym, _∙_, subst}
+use Prim.Native.Nat.{ℕ, _-_, _≤_}
+use native.Mathlib.Omega.{arith}
+use Rattle.records.specs.Columns.{at}
+use Rattle.counts.specs.Counts.{BelowRow}
+use Rattle.counts.proofs.Shifts.{below-none, below-more}
+use Rattle.counts.proofs.row_below.Statement.{statement}
+use Rattle.counts.proofs.row_below.Tie as tie
+
+abbrev Inv-loop : tie.InvT-loop
+Inv-loop delays start limit row₀ b₀ row b = (b ≤ 64) × BelowRow delays start limit b row
+
+abbrev μ-loop : tie.MeasureT-loop
+μ-loop delays start limit row₀ b₀ row b = 64 - b
+
+abbrev begin : tie.In-loop Inv-loop μ-loop → tie.Start Inv-loop μ-loop
+begin c = c .before .before .before .before
+
+loop-holds : tie.Need-loop-holds Inv-loop μ-loop
+loop-holds c =
+    let args = c .before .before .args in
+    (omega arith, below-none (args .delays .now) (args .start) (args .limit) (args .row .now) (c .before .before .pre .0 .3))
+
+add-below : tie.Need-add-below Inv-loop μ-loop
+add-below c = omega (arith, begin c .pre .0)
+
+mul-below : tie.Need-mul-below Inv-loop μ-loop
+mul-below c = omega (arith, begin c .pre .0)
+
+shared-slice-read-below : tie.Need-shared-slice-read-below Inv-loop μ-loop
+shared-slice-read-below c = omega (arith, begin (c .before) .pre .0)
+
+below-requires : tie.Need-below-requires Inv-loop μ-loop
+unfolding at
+below-requires c κs =
+    let inner = c .before in
+    (omega (arith, begin inner .pre .1 (inner .before .loop .b) (omega arith)), omega (arith, begin inner .pre .0 .2))
+
+mul-row : tie.Need-mul-row Inv-loop μ-loop
+mul-row c = omega arith
+
+slice-write-row : tie.Need-slice-write-row Inv-loop μ-loop
+slice-write-row c = omega (arith, c .before .before .before .loop .inv .1 .size)
+
+add-b : tie.Need-add-b Inv-loop μ-loop
+add-b c = omega arith
+
+loop-less : tie.Need-loop-less Inv-loop μ-loop
+loop-less c = omega arith
+
+loop-again : tie.Need-loop-again Inv-loop μ-loop
+unfolding at
+loop-again c =
+    let inner = c .before .before in
+    let args = begin inner .args in
+    (omega arith, below-more (args .delays .now) (args .start) (args .limit) (c .below .result) (inner .before .loop .inv .1) (omega arith) (c .below .ensures))
+
+same-length : tie.Need-same-length Inv-loop μ-loop
+same-length c = c .before .loop .inv .1 .size ∙ sym (c .before .before .before .before .pre .0 .3)
+
+returns : tie.Need-returns Inv-loop μ-loop
+returns c =
+    let args = c .before .before .before .before .args in
+    let whole : c .before .loop .b ≡ 64 = omega arith in
+    subst (λ (many : ℕ). BelowRow (args .delays .now) (args .start) (args .limit) many (c .before .loop .row)) whole (c .before .loop .inv .1)
+
+pub row-below-spec : {M : Type 1} → statement M
+row-below-spec =
+    tie.close
+    (tie.spec
+    Inv-loop
+    μ-loop
+    loop-holds
+    add-below
+    mul-below
+    shared-slice-read-below
+    below-requires
+    mul-row
+    slice-write-row
+    add-b
+    loop-less
+    loop-again
+    same-length
+    returns)
