@@ -2,7 +2,7 @@
 ghost use mathlib.Core.Path.{_≡_};
 ghost use mathlib.Core.Bool.{true};
 ghost use mathlib.Core.List.{List};
-ghost use Prim.Native.Nat.{_+_, _*_, _/_, _≤_, _<_};
+ghost use Prim.Native.Nat.{_+_, _*_, _/_, _^_, _≤_, _<_};
 ghost use lib.ListN.{length, getD, take, replicate};
 ghost use Rattle.model.specs.Lists.{tabulate};
 ghost use Rattle.model.specs.Tasks.{Task};
@@ -52,6 +52,47 @@ pub fn read_tasks<'a>(bytes: &[u8], processor: &'a mut [u8], time: &'a mut [u16]
     }
 }
 
+// Reads edges two at once, from edge `first` at a bit position on, if that is a byte's start: as long as there are two to read and five bytes to
+// read them from. Gives how many are read, those before `first` included. A loop of its own tests less than one that reads single edges too.
+fn pairs_from<'a>(
+    bytes: &[u8],
+    position: usize,
+    first: usize,
+    source: &'a mut [u8],
+    sink: &'a mut [u8],
+    delay: &'a mut [u8],
+) -> usize
+    requires { ⌜ position < 2 ^ 32 ⌝ }
+    requires { ⌜ (first ≤ length (now source)) × (length (now source) ≤ 256) ⌝ }
+    requires { ⌜ length (now sink) ≡ length (now source) ⌝ }
+    requires { ⌜ length (now delay) ≡ length (now source) ⌝ }
+    ensures { λ r. ⌜ (first ≤ r) × (r ≤ length (now (source .entry))) ⌝ }
+    ensures { λ r. ⌜ now (source .exit) ≡ withPart first r (λ k. edgeAt (now (bytes .entry)) (recordStart position k) .source) (now (source .entry)) ⌝ }
+    ensures { λ r. ⌜ now (sink .exit) ≡ withPart first r (λ k. edgeAt (now (bytes .entry)) (recordStart position k) .sink) (now (sink .entry)) ⌝ }
+    ensures { λ r. ⌜ now (delay .exit) ≡ withPart first r (λ k. edgeAt (now (bytes .entry)) (recordStart position k) .delay) (now (delay .entry)) ⌝ }
+{
+    if position & 7 != 0 {
+        return first;
+    }
+    let mut i = position >> 3;
+    let mut j = first;
+    while j + 1 < source.len() {
+        if i + 4 >= bytes.len() {
+            return j;
+        }
+        let two = bits::five_within(bytes, i);
+        source[j] = ((two >> 34) & 0x3f) as u8;
+        sink[j] = ((two >> 28) & 0x3f) as u8;
+        delay[j] = ((two >> 20) & 0xff) as u8;
+        source[j + 1] = ((two >> 14) & 0x3f) as u8;
+        sink[j + 1] = ((two >> 8) & 0x3f) as u8;
+        delay[j + 1] = (two & 0xff) as u8;
+        i += 5;
+        j += 2;
+    }
+    j
+}
+
 // The edges of a file from a bit position on, as many as the lists have room for.
 pub fn read_edges<'a>(
     bytes: &[u8],
@@ -71,17 +112,10 @@ pub fn read_edges<'a>(
     let mut at = position;
     let mut j = 0;
     while j < source.len() {
-        if pair_at(bytes, at, source.len() - j) {
-            let two = bits::five_within(bytes, at >> 3);
-            source[j] = ((two >> 34) & 0x3f) as u8;
-            sink[j] = ((two >> 28) & 0x3f) as u8;
-            delay[j] = ((two >> 20) & 0xff) as u8;
-            source[j + 1] = ((two >> 14) & 0x3f) as u8;
-            sink[j + 1] = ((two >> 8) & 0x3f) as u8;
-            delay[j + 1] = (two & 0xff) as u8;
-            at += PAIR_BITS;
-            j += 2;
-        } else {
+        let read = pairs_from(bytes, at, j, source, sink, delay);
+        at += RECORD_BITS * (read - j);
+        j = read;
+        if j < source.len() {
             let edge = layout::edge_at(bytes, at);
             source[j] = edge.source;
             sink[j] = edge.sink;
