@@ -69,7 +69,6 @@ pub fn ends_along<'a>(
     let tasks = time.len();
     let starts = no_starts();
     let mut start = starts.start;
-    let none = starts.start;
     turn_starts(
         source,
         sink,
@@ -78,12 +77,7 @@ pub fn ends_along<'a>(
         order_sink,
         count,
         found,
-        &order_source[0..0],
-        &order_source[0..0],
-        &order_source[0..0],
         time,
-        &none[0..0],
-        1,
         &mut start[0..tasks],
     );
     ends_into(time, &start[0..tasks], row);

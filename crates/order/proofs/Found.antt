@@ -1,17 +1,27 @@
--- From the listing to the order: the edges of delay 0 stand at the front of two lists, all of them are listed, so what is listed is an order of them.
-use mathlib.Core.Path.{_≡_, sym, ap, _∙_, subst}
-use mathlib.Core.List.{List}
+-- From the listing to the order: the words hold the edges of delay 0, and all that the words hold is listed, so what is listed is an order of them. An edge
+-- more of delay 0 is a bit more.
+use mathlib.Core.Path.{_≡_, refl, sym, ap, _∙_, subst}
+use mathlib.Core.Logic.{_⊎_, inl, inr}
+use mathlib.Core.Bool.{Bool, true, _&&_, _||_}
+use mathlib.Core.List.{List, [], _∷_, _++_, Memᴰ·append-left, Memᴰ·append-right, List·Memᴰ·append-cases, List·Memᴰ·eq-of-singleton, List·Memᴰ·head as here}
 use Prim.Native.Nat.{ℕ, _+_, _-_, _≤_, _<_}
-use native.Mathlib.Nat.{sub-zero}
+use native.Mathlib.Nat.{sub-zero, not-suc-le-zero}
 use native.Mathlib.Omega.{arith}
-use lib.ListN.{length, getD, drop}
-use lib.Seq.{getD-take, getD-drop}
+use lib.Dec.{eqb}
+use lib.ListN.{length, getD, set, drop, length-set}
+use lib.Seq.{getD-take, getD-drop, getD-set-same, getD-set-other}
+use borrow.Author.Tests.{eqb-true, eq-eqb}
 use borrow.Rule.Slice.PartMut.{midOf, mid-len}
 use Rattle.model.specs.Tasks.{Edge, _∈_, Ends}
-use Rattle.records.specs.Columns.{heldEdge, edgesOf}
-use Rattle.records.proofs.Edges.{edge-in, edge-out}
-use Rattle.order.specs.Order.{ZeroEdge, Listed, InOrder}
-use Rattle.order.specs.Listing.{ZeroEdges, Laid}
+use Rattle.model.proofs.Tests.{decided, eqb-decides, decides-no}
+use Rattle.records.specs.Columns.{edgesOf}
+use Rattle.reach.specs.Reach.{bit, bitAt}
+use Rattle.reach.proofs.Bits.{or-false}
+use Rattle.sets.specs.Sets.{ZeroWords}
+use Rattle.sets.proofs.Tasks.{or-left, or-right, or-cases, and-both, and-made}
+use Rattle.sets.proofs.Words.{edge-bit, bit-edge}
+use Rattle.order.specs.Order.{ZeroEdge, ZeroSets, InOrder}
+use Rattle.order.specs.Listing.{WordsInOrder}
 
 -- ── The front of a list, lent from its start ──
 
@@ -25,64 +35,76 @@ front-at xs n i l =
     let same : 0 + i ≡ i = omega arith in
     getD-take (n - 0) (drop 0 xs) i 0 inside ∙ (start ∙ ap (λ (j : ℕ). getD xs j 0) same)
 
--- ── Ends and order ──
+-- ── Sets ──
 
+pub zero-sets :
+    {source sink delay words : List ℕ} → ZeroWords source sink delay (length source) words → ZeroSets (edgesOf source sink delay) words
+zero-sets held = record {
+  room = held .room;
+  sound = λ s t l on. let e = bit-edge held s t l on in record { edge = e .0; member = e .1; now = e .2; from = e .3; to = e .4 };
+  whole = edge-bit held;
+}
+
+-- one edge more of delay 0, by one bit more in the word of its source
 module _
-    (source sink delay xs ys : List ℕ) (count : ℕ) (few : length source ≤ 576) (zero-delay : ZeroEdges source sink delay (length source) xs ys count)
+    {es : List Edge} {words : List ℕ} (held : ZeroSets es words) (e : Edge) (now : e .delay ≡ 0) (inside : e .source < 64) (word : ℕ)
+    (stored : (b : ℕ) → bit word b ≡ bitAt words (e .source) b || eqb (e .sink) b)
   where
-    pub room : count ≤ length xs
-    room = let fewer = zero-delay .few in let long = zero-delay .room in omega arith
-
-    pub room-too : count ≤ length ys
-    room-too = let fewer = zero-delay .few in let long = zero-delay .room-too in omega arith
-
-    pub ends-small :
-        {n : ℕ} → n ≤ 64 → Ends n (edgesOf source sink delay) → (i : ℕ) → i < length (midOf 0 (count - 0) xs)
-        → (getD (midOf 0 (count - 0) xs) i 0 < 64) × (getD (midOf 0 (count - 0) ys) i 0 < 64)
-    unfolding heldEdge
-    ends-small {n} small ends i l =
-        let inside : i < count = subst (λ (m : ℕ). i < m) (front-length xs count room) l in
-        let edge = zero-delay .sound i inside in
-        let both = ends (heldEdge source sink delay (edge .place)) (edge-in source sink delay (edge .place) (edge .inside)) in
-        let from = edge .from ∙ sym (front-at xs count i inside) in
-        let to = edge .to ∙ sym (front-at ys count i inside) in
-        (omega (arith, both .0), omega (arith, both .1))
-
-    pub in-order :
-        {passed listed zs ws : List ℕ} {laid : ℕ}
-        → Laid (midOf 0 (count - 0) xs) (midOf 0 (count - 0) ys) (length (midOf 0 (count - 0) xs)) passed listed zs ws laid
-        → ((i : ℕ) → i < count → 1 ≤ getD listed i 0) → InOrder (edgesOf source sink delay) zs ws laid
-    unfolding heldEdge
-    in-order {zs = zs} {ws = ws} {laid = laid} done all = record { sound = sound; whole = whole; ahead = done .ahead }
+    set-bit : (s t : ℕ) → bitAt (set words (e .source) word) s t ≡ bitAt words s t || (eqb (e .source) s && eqb (e .sink) t)
+    set-bit s t = go (decided (eqb-decides (e .source) s))
       where
-        long : length (midOf 0 (count - 0) xs) ≡ count
-        long = front-length xs count room
+        at-source : bitAt (set words (e .source) word) (e .source) t ≡ bitAt words (e .source) t || (eqb (e .source) (e .source) && eqb (e .sink) t)
+        at-source =
+            ap (λ (x : ℕ). bit x t) (getD-set-same words (e .source) word 0 (let room = held .room in omega arith)) ∙
+            (stored t ∙ ap (λ (x : Bool). bitAt words (e .source) t || (x && eqb (e .sink) t)) (sym (eq-eqb (e .source) (e .source) refl)))
 
-        sound : (k : ℕ) → k < laid → ZeroEdge (edgesOf source sink delay) (getD zs k 0) (getD ws k 0)
-        sound k l =
-            let here = done .sound k l in
-            let inside : here .place < count = subst (λ (m : ℕ). here .place < m) long (here .inside) in
-            let edge = zero-delay .sound (here .place) inside in record {
-              edge = heldEdge source sink delay (edge .place);
-              member = edge-in source sink delay (edge .place) (edge .inside);
-              now = edge .now;
-              from = edge .from ∙ (sym (front-at xs count (here .place) inside) ∙ here .from);
-              to = edge .to ∙ (sym (front-at ys count (here .place) inside) ∙ here .to);
-            }
+        go : (e .source ≡ s) ⊎ (e .source ≡ s → ⊥) → bitAt (set words (e .source) word) s t ≡ bitAt words s t || (eqb (e .source) s && eqb (e .sink) t)
+        go (inl same) =
+            subst (λ (v : ℕ). bitAt (set words (e .source) word) v t ≡ bitAt words v t || (eqb (e .source) v && eqb (e .sink) t)) same at-source
+        go (inr other) =
+            ap (λ (x : ℕ). bit x t) (getD-set-other words (e .source) s word 0 (λ q. other (sym q))) ∙
+            sym
+            (ap (λ (x : Bool). bitAt words s t || (x && eqb (e .sink) t)) (decides-no (eqb-decides (e .source) s) other) ∙ or-false (bitAt words s t))
 
-        listed-at : (j : ℕ) → j < length source → getD delay j 0 ≡ 0 → Listed zs ws laid (getD source j 0) (getD sink j 0)
-        listed-at j l now =
-            let here = zero-delay .whole j l now in
-            let i = here .place in
-            let found = done .found i (subst (λ (m : ℕ). i < m) (sym long) (here .inside)) (all i (here .inside)) in record {
-              place = found .place;
-              inside = found .inside;
-              from = found .from ∙ (front-at xs count i (here .inside) ∙ here .from);
-              to = found .to ∙ (front-at ys count i (here .inside) ∙ here .to);
-            }
+    found : (s t : ℕ) → (bitAt words s t ≡ true → ZeroEdge es s t) → (bitAt words s t ≡ true) ⊎ (eqb (e .source) s && eqb (e .sink) t ≡ true)
+        → ZeroEdge (es ++ (e ∷ [])) s t
+    found s t old (inl before) =
+        let z = old before in
+        record { edge = z .edge; member = Memᴰ·append-left (e ∷ []) (z .member); now = z .now; from = z .from; to = z .to }
+    found s t old (inr new) =
+        let both = and-both _ _ new in
+        record { edge = e; member = Memᴰ·append-right es (here refl); now = now; from = eqb-true _ _ (both .0); to = eqb-true _ _ (both .1) }
 
-        whole : (e : Edge) → e ∈ edgesOf source sink delay → e .delay ≡ 0 → Listed zs ws laid (e .source) (e .sink)
-        whole e m now =
-            let place = edge-out source sink delay e m in
-            subst (λ (x : Edge). Listed zs ws laid (x .source) (x .sink)) (sym (place .2))
-            (listed-at (place .0) (place .1) (sym (ap (λ (x : Edge). x .delay) (place .2)) ∙ now))
+    kept : (f : Edge) → f .delay ≡ 0 → f ∈ es ⊎ f ∈ (e ∷ []) → bitAt (set words (e .source) word) (f .source) (f .sink) ≡ true
+    kept f z (inl old) = set-bit (f .source) (f .sink) ∙ or-left _ _ (held .whole f old z)
+    kept f z (inr new) =
+        subst (λ (f : Edge). bitAt (set words (e .source) word) (f .source) (f .sink) ≡ true) (sym (List·Memᴰ·eq-of-singleton new))
+        (set-bit (e .source) (e .sink) ∙
+        or-right (bitAt words (e .source) (e .sink)) (eqb (e .source) (e .source) && eqb (e .sink) (e .sink))
+        (and-made (eqb (e .source) (e .source)) (eqb (e .sink) (e .sink)) (eq-eqb (e .source) (e .source) refl) (eq-eqb (e .sink) (e .sink) refl)))
+
+    pub sets-more : ZeroSets (es ++ (e ∷ [])) (set words (e .source) word)
+    sets-more = record {
+      room = length-set words (e .source) word ∙ held .room;
+      sound = λ s t l on. found s t (held .sound s t l) (or-cases _ _ (sym (set-bit s t) ∙ on));
+      whole = λ f m z. kept f z (List·Memᴰ·append-cases es m);
+    }
+
+-- ── Order ──
+
+pub in-order :
+    {es : List Edge} {words : List ℕ} → ZeroSets es words → {n : ℕ} → Ends n es → {xs ys : List ℕ} {count : ℕ} → WordsInOrder words n xs ys count
+    → InOrder es xs ys count
+in-order held ends {xs} {ys} listed = record {
+  sound = λ k l. held .sound (getD xs k 0) (getD ys k 0) (listed .inside k l) (listed .sound k l);
+  whole = λ e m now. listed .whole (e .source) (e .sink) (ends e m .0) (held .whole e m now);
+  ahead = listed .ahead;
+}
+
+-- without tasks there are no edges
+pub no-tasks : {es : List Edge} → Ends 0 es → (xs ys : List ℕ) → InOrder es xs ys 0
+no-tasks ends xs ys = record {
+  sound = λ k l. absurd (not-suc-le-zero l);
+  whole = λ e m now. absurd (not-suc-le-zero (ends e m .0));
+  ahead = λ i j l k. absurd (not-suc-le-zero k);
+}

@@ -1,352 +1,171 @@
--- What is known while the edges of delay 0 are listed, kept by one edge more: each is stored behind those listed so far, its source has been passed, and its
--- sink has not, so it leads to the source of none of them.
+-- What is known while the edges of delay 0 are listed: each edge is stored behind those listed so far, its source has been taken and its sink has not,
+-- so it leads to the source of none of them.
 use mathlib.Core.Path.{_≡_, refl, sym, ap, _∙_, subst}
 use mathlib.Core.Logic.{_⊎_, inl, inr}
+use mathlib.Core.Bool.{true, false, not, _||_, _&&_}
 use mathlib.Core.List.{List}
-use mathlib.Core.Bool.{Bool, true, false, _||_}
-use Prim.Native.Nat.{ℕ, zero, suc, _+_, _≤_, _<_}
-use lib.Dec.{eqb}
+use Prim.Native.Nat.{ℕ, _+_, _≤_, _<_}
 use native.Mathlib.Nat.{not-suc-le-zero}
 use native.Mathlib.Omega.{arith}
-use lib.ListN.{length, getD, set, replicate, length-set, length-replicate, getD-replicate, List·getD-eq-default}
+use lib.Dec.{eqb}
+use lib.ListN.{length, getD, set, length-set}
 use lib.Seq.{getD-set-same, getD-set-other}
+use borrow.Author.Count.{below-more}
+use borrow.Author.Tests.{eqb-true, eq-eqb}
 use Rattle.model.proofs.Basics.{order}
+use Rattle.reach.specs.Reach.{bit, bitAt}
+use Rattle.reach.proofs.Bits.{bit-zero}
+use Rattle.sets.proofs.Tasks.{never, or-left, or-right, or-cases, and-both, gone-before}
 use Rattle.order.specs.Order.{Listed}
-use Rattle.order.specs.Listing.{ZeroAt, ZeroEdges, Onward, Laid, Small}
+use Rattle.order.specs.Listing.{SinksListed, WordsInOrder}
 
--- ── Lists with one entry more ──
+-- ── The sinks of one task ──
 
-module _ (xs ys : List ℕ) (count x y : ℕ) where
-  -- entries listed so far stay where something is stored behind them
-  listed-still : {s t : ℕ} → Listed xs ys count s t → Listed (set xs count x) (set ys count y) count s t
-  listed-still l = record {
-    place = l .place;
-    inside = l .inside;
-    from = let below = l .inside in getD-set-other xs count (l .place) x 0 (λ q. omega arith) ∙ l .from;
-    to = let below = l .inside in getD-set-other ys count (l .place) y 0 (λ q. omega arith) ∙ l .to;
-  }
-
-  listed-more : {s t : ℕ} → Listed xs ys count s t → Listed (set xs count x) (set ys count y) (count + 1) s t
-  listed-more l =
-      let kept = listed-still l in
-      record { place = kept .place; inside = let below = kept .inside in omega arith; from = kept .from; to = kept .to }
-
-  -- and that is listed too
-  listed-last : count < length xs → count < length ys → Listed (set xs count x) (set ys count y) (count + 1) x y
-  listed-last here there = record {
-    place = count;
-    inside = omega arith;
-    from = getD-set-same xs count x 0 here;
-    to = getD-set-same ys count y 0 there;
-  }
-
--- ── The edges of delay 0 ──
-
-module _ (source sink delay : List ℕ) where
-  zero-later : {m s t : ℕ} → ZeroAt source sink delay m s t → ZeroAt source sink delay (m + 1) s t
-  zero-later z = record { place = z .place; inside = let below = z .inside in omega arith; now = z .now; from = z .from; to = z .to }
-
-  pub zero-none : (xs ys : List ℕ) → length xs ≡ 576 → length ys ≡ 576 → ZeroEdges source sink delay 0 xs ys 0
-  zero-none xs ys room room-too = record {
-    few = omega arith;
+module _ (task word : ℕ) (xs ys : List ℕ) (before : ℕ) where
+  pub sinks-none : length xs ≡ 576 → length ys ≡ 576 → before ≤ 576 → SinksListed task word xs ys before word xs ys before
+  sinks-none room room-too few = record {
+    few = few;
     room = room;
     room-too = room-too;
-    sound = λ k l. absurd (not-suc-le-zero l);
-    whole = λ j l. absurd (not-suc-le-zero l);
+    kept = λ k l. (refl, refl);
+    new = λ k late l. absurd (omega arith);
+    more = omega arith;
+    found = λ t on off. absurd (never on off);
+    part = λ t on. on;
   }
 
-  module _ {m count : ℕ} {xs ys : List ℕ} (done : ZeroEdges source sink delay m xs ys count) (space : m < 576) where
-    abbrev s : ℕ
-    s = getD source m 0
-
-    abbrev t : ℕ
-    t = getD sink m 0
-
-    here : count < length xs
-    here = let few = done .few in let room = done .room in omega arith
-
-    there : count < length ys
-    there = let few = done .few in let room = done .room-too in omega arith
-
-    kept : (k : ℕ) → k < count → ZeroAt source sink delay (m + 1) (getD (set xs count s) k 0) (getD (set ys count t) k 0)
-    kept k l =
-        let old = zero-later (done .sound k l) in record {
-          place = old .place;
-          inside = old .inside;
-          now = old .now;
-          from = old .from ∙ sym (getD-set-other xs count k s 0 (λ q. omega arith));
-          to = old .to ∙ sym (getD-set-other ys count k t 0 (λ q. omega arith));
-        }
-
-    pub zero-more : getD delay m 0 ≡ 0 → ZeroEdges source sink delay (m + 1) (set xs count s) (set ys count t) (count + 1)
-    zero-more now = record {
-      few = let few = done .few in omega arith;
-      room = length-set xs count s ∙ done .room;
-      room-too = length-set ys count t ∙ done .room-too;
-      sound = λ k l. sound k (order count k) l;
-      whole = λ j l z. whole j (order m j) l z;
-    }
-      where
-        sound : (k : ℕ) → (count ≤ k) ⊎ (k < count) → k < count + 1 → ZeroAt source sink delay (m + 1) (getD (set xs count s) k 0) (getD (set ys count t) k 0)
-        sound k (inl l) below =
-            let same : k ≡ count = omega arith in record {
-              place = m;
-              inside = omega arith;
-              now = now;
-              from = sym (ap (λ (i : ℕ). getD (set xs count s) i 0) same ∙ getD-set-same xs count s 0 here);
-              to = sym (ap (λ (i : ℕ). getD (set ys count t) i 0) same ∙ getD-set-same ys count t 0 there);
-            }
-        sound k (inr l) below = kept k l
-
-        whole :
-            (j : ℕ) → (m ≤ j) ⊎ (j < m) → j < m + 1 → getD delay j 0 ≡ 0
-            → Listed (set xs count s) (set ys count t) (count + 1) (getD source j 0) (getD sink j 0)
-        whole j (inl l) below z =
-            let same : m ≡ j = omega arith in
-            subst (λ (i : ℕ). Listed (set xs count s) (set ys count t) (count + 1) (getD source i 0) (getD sink i 0)) same (listed-last xs ys count s t here there)
-        whole j (inr l) below z = listed-more xs ys count s t (done .whole j l z)
-
-    pub zero-skip : 1 ≤ getD delay m 0 → ZeroEdges source sink delay (m + 1) (set xs count s) (set ys count t) count
-    zero-skip later = record {
-      few = let few = done .few in omega arith;
-      room = length-set xs count s ∙ done .room;
-      room-too = length-set ys count t ∙ done .room-too;
-      sound = kept;
-      whole = λ j l z. whole j (order m j) l z;
-    }
-      where
-        whole :
-            (j : ℕ) → (m ≤ j) ⊎ (j < m) → j < m + 1 → getD delay j 0 ≡ 0
-            → Listed (set xs count s) (set ys count t) count (getD source j 0) (getD sink j 0)
-        whole j (inl l) below z =
-            let same : j ≡ m = omega arith in
-            let late : 1 ≤ getD delay j 0 = subst (λ (i : ℕ). 1 ≤ getD delay i 0) (sym same) later in
-            absurd (omega arith)
-        whole j (inr l) below z = listed-still xs ys count s t (done .whole j l z)
-
-    -- by what is counted for the delay
-    pub zero-step :
-        (r : ℕ) → (getD delay m 0 ≡ 0 → r ≡ 1) → (1 ≤ getD delay m 0 → r ≡ 0)
-        → ZeroEdges source sink delay (m + 1) (set xs count s) (set ys count t) (count + r)
-    zero-step r one none = go (order 1 (getD delay m 0))
-      where
-        go : (1 ≤ getD delay m 0) ⊎ (getD delay m 0 < 1) → ZeroEdges source sink delay (m + 1) (set xs count s) (set ys count t) (count + r)
-        go (inl later) =
-            let nothing : r ≡ 0 = none later in
-            let same : count ≡ count + r = omega arith in
-            subst (λ (n : ℕ). ZeroEdges source sink delay (m + 1) (set xs count s) (set ys count t) n) same (zero-skip later)
-        go (inr now) =
-            let zero-delay : getD delay m 0 ≡ 0 = omega arith in
-            let this : r ≡ 1 = one zero-delay in
-            let same : count + 1 ≡ count + r = omega arith in
-            subst (λ (n : ℕ). ZeroEdges source sink delay (m + 1) (set xs count s) (set ys count t) n) same (zero-more zero-delay)
-
--- ── One edge more in the order ──
-
-module _ {source sink : List ℕ} {count : ℕ} where
-  pub laid-none :
-      (passed : List ℕ) {listed xs ys : List ℕ} → listed ≡ replicate 576 0 → length xs ≡ 576 → length ys ≡ 576
-      → Laid source sink count passed listed xs ys 0
-  laid-none passed {listed} blank room room-too = record {
+  pub sinks-more :
+      {rest : ℕ} {zs ws : List ℕ} {laid : ℕ} → SinksListed task word xs ys before rest zs ws laid → (t rest′ : ℕ) → laid < 576 → bit rest t ≡ true
+      → ((b : ℕ) → bit rest′ b ≡ bit rest b && not (eqb t b)) → SinksListed task word xs ys before rest′ (set zs laid task) (set ws laid t) (laid + 1)
+  sinks-more {rest} {zs} {ws} {laid} sofar t rest′ space on left = record {
     few = omega arith;
-    room = room;
-    room-too = room-too;
-    marks = ap length blank ∙ length-replicate {A = ℕ} 576 0;
-    sound = λ k l. absurd (not-suc-le-zero l);
-    found = λ i l marked. absurd (none i (order 576 i) marked);
-    gone = λ k l. absurd (not-suc-le-zero l);
-    ahead = λ i j l k. absurd (not-suc-le-zero k);
+    room = length-set zs laid task ∙ sofar .room;
+    room-too = length-set ws laid t ∙ sofar .room-too;
+    kept = λ k l. let more = sofar .more in let old = sofar .kept k l in (old-from k (omega arith) ∙ old .0, old-to k (omega arith) ∙ old .1);
+    new = λ k late l.
+        below-more (λ k. before ≤ k → (getD (set zs laid task) k 0 ≡ task) × (bit word (getD (set ws laid t) k 0) ≡ true)) laid
+        (λ k l late. let old = sofar .new k late l in (old-from k l ∙ old .0, ap (bit word) (old-to k l) ∙ old .1))
+        (λ late. (here, ap (bit word) there ∙ sofar .part t on)) k l late;
+    more = let more = sofar .more in omega arith;
+    found = λ u in-word off. go u in-word (gone-before rest rest′ t left u off);
+    part = λ u in-rest. sofar .part u (and-both _ _ (sym (left u) ∙ in-rest) .0);
   }
     where
-      none : (i : ℕ) → (576 ≤ i) ⊎ (i < 576) → 1 ≤ getD listed i 0 → ⊥
-      none i (inl past) marked =
-          let long : length listed ≡ 576 = ap length blank ∙ length-replicate {A = ℕ} 576 0 in
-          let zero : getD listed i 0 ≡ 0 = List·getD-eq-default listed 0 (omega arith) in
-          omega arith
-      none i (inr inside) marked =
-          let zero : getD listed i 0 ≡ 0 = ap (λ (xs : List ℕ). getD xs i 0) blank ∙ getD-replicate {A = ℕ} 576 i 0 0 inside in
-          omega arith
+      old-from : (k : ℕ) → k < laid → getD (set zs laid task) k 0 ≡ getD zs k 0
+      old-from k l = getD-set-other zs laid k task 0 (λ q. omega arith)
 
-  module _ {passed listed xs ys : List ℕ} {laid : ℕ} (done : Laid source sink count passed listed xs ys laid) where
-    -- a task more is passed
-    pub laid-passed : (v : ℕ) → v < length passed → Laid source sink count (set passed v 1) listed xs ys laid
-    laid-passed v inside = record {
-      few = done .few;
-      room = done .room;
-      room-too = done .room-too;
-      marks = done .marks;
-      sound = done .sound;
-      found = done .found;
-      gone = λ k l. gone (getD xs k 0) (order v (getD xs k 0)) (order (getD xs k 0) v) (done .gone k l);
-      ahead = done .ahead;
-    }
+      old-to : (k : ℕ) → k < laid → getD (set ws laid t) k 0 ≡ getD ws k 0
+      old-to k l = getD-set-other ws laid k t 0 (λ q. omega arith)
+
+      here : getD (set zs laid task) laid 0 ≡ task
+      here = getD-set-same zs laid task 0 (let room = sofar .room in omega arith)
+
+      there : getD (set ws laid t) laid 0 ≡ t
+      there = getD-set-same ws laid t 0 (let room = sofar .room-too in omega arith)
+
+      go : (u : ℕ) → bit word u ≡ true → (u ≡ t) ⊎ (bit rest u ≡ false) → Listed (set zs laid task) (set ws laid t) (laid + 1) task u
+      go u in-word (inl same) = record { place = laid; inside = omega arith; from = here; to = there ∙ sym same }
+      go u in-word (inr off) =
+          let old = sofar .found u in-word off in
+          let l = old .inside in record {
+            place = old .place;
+            inside = omega arith;
+            from = old-from (old .place) l ∙ old .from;
+            to = old-to (old .place) l ∙ old .to;
+          }
+
+  pub sinks-all :
+      {rest : ℕ} {zs ws : List ℕ} {laid : ℕ} → rest ≡ 0 → SinksListed task word xs ys before rest zs ws laid
+      → SinksListed task word xs ys before 0 zs ws laid
+  sinks-all {zs = zs} {ws = ws} {laid = laid} none = subst (λ (r : ℕ). SinksListed task word xs ys before r zs ws laid) none
+
+-- ── Task by task ──
+
+-- The first `laid` entries of two lists are edges that the words hold; their sources have been taken; every edge out of a task that has been taken is
+-- one of them; and none leads to the source of one before it.
+pub record Laid (sinks : List ℕ) (done : ℕ) (source sink : List ℕ) (laid : ℕ) : Type 0 where
+  pub few : laid ≤ 576
+  pub room : length source ≡ 576
+  pub room-too : length sink ≡ 576
+  pub inside : (k : ℕ) → k < laid → getD source k 0 < 64
+  pub sound : (k : ℕ) → k < laid → bitAt sinks (getD source k 0) (getD sink k 0) ≡ true
+  pub gone : (k : ℕ) → k < laid → bit done (getD source k 0) ≡ true
+  pub found : (s t : ℕ) → bit done s ≡ true → bitAt sinks s t ≡ true → Listed source sink laid s t
+  pub ahead : (i j : ℕ) → i ≤ j → j < laid → getD sink j 0 ≡ getD source i 0 → ⊥
+
+pub laid-none : (sinks : List ℕ) {xs ys : List ℕ} → length xs ≡ 576 → length ys ≡ 576 → Laid sinks 0 xs ys 0
+laid-none sinks room room-too = record {
+  few = omega arith;
+  room = room;
+  room-too = room-too;
+  inside = λ k l. absurd (not-suc-le-zero l);
+  sound = λ k l. absurd (not-suc-le-zero l);
+  gone = λ k l. absurd (not-suc-le-zero l);
+  found = λ s t taken on. absurd (never taken (bit-zero s));
+  ahead = λ i j l k. absurd (not-suc-le-zero k);
+}
+
+module _
+    {sinks : List ℕ} {done : ℕ} {xs ys : List ℕ} {laid : ℕ} (sofar : Laid sinks done xs ys laid) (v done′ : ℕ) (small : v < 64)
+    (taken : (b : ℕ) → bit done′ b ≡ bit done b || eqb v b) (apart : (b : ℕ) → bitAt sinks v b ≡ true → bit done′ b ≡ false)
+    {zs ws : List ℕ} {laid′ : ℕ} (listed : SinksListed v (getD sinks v 0) xs ys laid 0 zs ws laid′)
+  where
+    -- the sources have been taken
+    gone-too : (k : ℕ) → k < laid′ → bit done′ (getD zs k 0) ≡ true
+    gone-too k l = go (order laid k)
       where
-        gone : (x : ℕ) → (v ≤ x) ⊎ (x < v) → (x ≤ v) ⊎ (v < x) → 1 ≤ getD passed x 0 → 1 ≤ getD (set passed v 1) x 0
-        gone x (inl l) (inl k) old =
-            let same : x ≡ v = omega arith in
-            let one : getD (set passed v 1) x 0 ≡ 1 = ap (λ (i : ℕ). getD (set passed v 1) i 0) same ∙ getD-set-same passed v 1 0 inside in
-            omega arith
-        gone x (inr l) other old =
-            let kept : getD (set passed v 1) x 0 ≡ getD passed x 0 = getD-set-other passed v x 1 0 (λ q. omega arith) in
-            omega arith
-        gone x (inl l) (inr k) old =
-            let kept : getD (set passed v 1) x 0 ≡ getD passed x 0 = getD-set-other passed v x 1 0 (λ q. omega arith) in
-            omega arith
+        go : (laid ≤ k) ⊎ (k < laid) → bit done′ (getD zs k 0) ≡ true
+        go (inl late) = ap (bit done′) (listed .new k late l .0) ∙ (taken v ∙ or-right (bit done v) (eqb v v) (eq-eqb v v refl))
+        go (inr early) = ap (bit done′) (listed .kept k early .0) ∙ (taken (getD xs k 0) ∙ or-left _ _ (sofar .gone k early))
 
-    module _ {i s t : ℕ} (inside : i < count) (from : getD source i 0 ≡ s) (to : getD sink i 0 ≡ t) (space : laid < 576) where
-      behind : laid < length xs
-      behind = let room = done .room in omega arith
+    inside-too : (k : ℕ) → k < laid′ → getD zs k 0 < 64
+    inside-too k l = go (order laid k)
+      where
+        go : (laid ≤ k) ⊎ (k < laid) → getD zs k 0 < 64
+        go (inl late) = let is = listed .new k late l .0 in omega arith
+        go (inr early) = let is = listed .kept k early .0 in let old = sofar .inside k early in omega arith
 
-      behind-too : laid < length ys
-      behind-too = let room = done .room-too in omega arith
+    sound-too : (k : ℕ) → k < laid′ → bitAt sinks (getD zs k 0) (getD ws k 0) ≡ true
+    sound-too k l = go (order laid k)
+      where
+        go : (laid ≤ k) ⊎ (k < laid) → bitAt sinks (getD zs k 0) (getD ws k 0) ≡ true
+        go (inl late) = let new = listed .new k late l in ap (λ (s : ℕ). bitAt sinks s (getD ws k 0)) (new .0) ∙ new .1
+        go (inr early) = let old = listed .kept k early in (λ i. bitAt sinks (old .0 i) (old .1 i)) ∙ sofar .sound k early
 
-      pub laid-more :
-          count ≤ 576 → 1 ≤ getD passed s 0 → getD passed t 0 ≡ 0
-          → Laid source sink count passed (set listed i 1) (set xs laid s) (set ys laid t) (laid + 1)
-      laid-more small gone-now open-now = record {
-        few = omega arith;
-        room = length-set xs laid s ∙ done .room;
-        room-too = length-set ys laid t ∙ done .room-too;
-        marks = length-set listed i 1 ∙ done .marks;
-        sound = λ k l. sound k (order laid k) l;
-        found = λ j l marked. found j l (order i j) (order j i) marked;
-        gone = λ k l. gone k (order laid k) l;
-        ahead = λ a b l k. ahead a b l k (order laid a) (order laid b);
-      }
-        where
-          old-from : (k : ℕ) → k < laid → getD (set xs laid s) k 0 ≡ getD xs k 0
-          old-from k l = getD-set-other xs laid k s 0 (λ q. omega arith)
+    found-too : (s t : ℕ) → bit done′ s ≡ true → bitAt sinks s t ≡ true → Listed zs ws laid′ s t
+    found-too s t gone on = go (or-cases _ _ (sym (taken s) ∙ gone))
+      where
+        go : (bit done s ≡ true) ⊎ (eqb v s ≡ true) → Listed zs ws laid′ s t
+        go (inl before) =
+            let old = sofar .found s t before on in
+            let early = old .inside in
+            let kept = listed .kept (old .place) early in
+            let more = listed .more in
+            record { place = old .place; inside = omega arith; from = kept .0 ∙ old .from; to = kept .1 ∙ old .to }
+        go (inr now) =
+            let is : v ≡ s = eqb-true _ _ now in
+            subst (λ (u : ℕ). Listed zs ws laid′ u t) is (listed .found t (ap (λ (u : ℕ). bitAt sinks u t) is ∙ on) (bit-zero t))
 
-          old-to : (k : ℕ) → k < laid → getD (set ys laid t) k 0 ≡ getD ys k 0
-          old-to k l = getD-set-other ys laid k t 0 (λ q. omega arith)
+    ahead-too : (i j : ℕ) → i ≤ j → j < laid′ → getD ws j 0 ≡ getD zs i 0 → ⊥
+    ahead-too i j l k q = go (order laid j)
+      where
+        go : (laid ≤ j) ⊎ (j < laid) → ⊥
+        go (inl late) = never (gone-too i (omega arith)) (ap (bit done′) (sym q) ∙ apart (getD ws j 0) (listed .new j late k .1))
+        go (inr early) = sofar .ahead i j l early (sym (listed .kept j early .1) ∙ (q ∙ listed .kept i (omega arith) .0))
 
-          new-from : (k : ℕ) → k ≡ laid → getD (set xs laid s) k 0 ≡ s
-          new-from k q = ap (λ (j : ℕ). getD (set xs laid s) j 0) q ∙ getD-set-same xs laid s 0 behind
+    pub laid-more : Laid sinks done′ zs ws laid′
+    laid-more = record {
+      few = listed .few;
+      room = listed .room;
+      room-too = listed .room-too;
+      inside = inside-too;
+      sound = sound-too;
+      gone = gone-too;
+      found = found-too;
+      ahead = ahead-too;
+    }
 
-          new-to : (k : ℕ) → k ≡ laid → getD (set ys laid t) k 0 ≡ t
-          new-to k q = ap (λ (j : ℕ). getD (set ys laid t) j 0) q ∙ getD-set-same ys laid t 0 behind-too
-
-          sound : (k : ℕ) → (laid ≤ k) ⊎ (k < laid) → k < laid + 1 → Listed source sink count (getD (set xs laid s) k 0) (getD (set ys laid t) k 0)
-          sound k (inl l) below =
-              let last : k ≡ laid = omega arith in
-              record { place = i; inside = inside; from = from ∙ sym (new-from k last); to = to ∙ sym (new-to k last) }
-          sound k (inr l) below =
-              let old = done .sound k l in
-              record { place = old .place; inside = old .inside; from = old .from ∙ sym (old-from k l); to = old .to ∙ sym (old-to k l) }
-
-          found :
-              (j : ℕ) → j < count → (i ≤ j) ⊎ (j < i) → (j ≤ i) ⊎ (i < j) → 1 ≤ getD (set listed i 1) j 0
-              → Listed (set xs laid s) (set ys laid t) (laid + 1) (getD source j 0) (getD sink j 0)
-          found j l (inl a) (inl b) marked =
-              let same : i ≡ j = omega arith in
-              subst (λ (k : ℕ). Listed (set xs laid s) (set ys laid t) (laid + 1) (getD source k 0) (getD sink k 0)) same
-              (subst (λ (x : ℕ). Listed (set xs laid s) (set ys laid t) (laid + 1) x (getD sink i 0)) (sym from)
-              (subst (λ (y : ℕ). Listed (set xs laid s) (set ys laid t) (laid + 1) s y) (sym to) (listed-last xs ys laid s t behind behind-too)))
-          found j l (inr a) other marked =
-              let kept : getD (set listed i 1) j 0 ≡ getD listed j 0 = getD-set-other listed i j 1 0 (λ q. omega arith) in
-              listed-more xs ys laid s t (done .found j l (omega arith))
-          found j l (inl a) (inr b) marked =
-              let kept : getD (set listed i 1) j 0 ≡ getD listed j 0 = getD-set-other listed i j 1 0 (λ q. omega arith) in
-              listed-more xs ys laid s t (done .found j l (omega arith))
-
-          gone : (k : ℕ) → (laid ≤ k) ⊎ (k < laid) → k < laid + 1 → 1 ≤ getD passed (getD (set xs laid s) k 0) 0
-          gone k (inl l) below =
-              let last : k ≡ laid = omega arith in
-              subst (λ (x : ℕ). 1 ≤ getD passed x 0) (sym (new-from k last)) gone-now
-          gone k (inr l) below = subst (λ (x : ℕ). 1 ≤ getD passed x 0) (sym (old-from k l)) (done .gone k l)
-
-          -- the sink of the last edge is not passed, the source of each is
-          unlike : (x : ℕ) → 1 ≤ getD passed x 0 → t ≡ x → ⊥
-          unlike x marked q =
-              let both : getD passed t 0 ≡ getD passed x 0 = ap (λ (y : ℕ). getD passed y 0) q in
-              omega arith
-
-          ahead :
-              (a b : ℕ) → a ≤ b → b < laid + 1 → (laid ≤ a) ⊎ (a < laid) → (laid ≤ b) ⊎ (b < laid)
-              → getD (set ys laid t) b 0 ≡ getD (set xs laid s) a 0 → ⊥
-          ahead a b l k (inl u) (inl w) q =
-              let first : a ≡ laid = omega arith in
-              let last : b ≡ laid = omega arith in
-              unlike s gone-now (sym (new-to b last) ∙ (q ∙ new-from a first))
-          ahead a b l k (inr u) (inl w) q =
-              let last : b ≡ laid = omega arith in
-              unlike (getD xs a 0) (done .gone a u) (sym (new-to b last) ∙ (q ∙ old-from a u))
-          ahead a b l k (inl u) (inr w) q = absurd (omega arith)
-          ahead a b l k (inr u) (inr w) q = done .ahead a b l w (sym (old-to b w) ∙ (q ∙ old-from a u))
-
--- ── Small entries ──
-
-pub small-set : (xs : List ℕ) (k v : ℕ) → Small xs → v < 64 → Small (set xs k v)
-small-set xs k v small below i = go (order k i) (order i k) (order (length xs) k)
-  where
-    go : (k ≤ i) ⊎ (i < k) → (i ≤ k) ⊎ (k < i) → (length xs ≤ k) ⊎ (k < length xs) → getD (set xs k v) i 0 < 64
-    go (inl a) (inl b) (inr c) =
-        let same : i ≡ k = omega arith in
-        let is : getD (set xs k v) i 0 ≡ v = ap (λ (j : ℕ). getD (set xs k v) j 0) same ∙ getD-set-same xs k v 0 c in
-        omega arith
-    go (inl a) (inl b) (inl c) =
-        let long : length (set xs k v) ≡ length xs = length-set xs k v in
-        let is : getD (set xs k v) i 0 ≡ 0 = List·getD-eq-default (set xs k v) 0 (omega arith) in
-        omega arith
-    go (inr a) other room =
-        let is : getD (set xs k v) i 0 ≡ getD xs i 0 = getD-set-other xs k i v 0 (λ q. omega arith) in
-        let old = small i in
-        omega arith
-    go (inl a) (inr b) room =
-        let is : getD (set xs k v) i 0 ≡ getD xs i 0 = getD-set-other xs k i v 0 (λ q. omega arith) in
-        let old = small i in
-        omega arith
-
-pub small-none : (n : ℕ) {xs : List ℕ} → xs ≡ replicate n 0 → Small xs
-small-none n {xs} blank i = go (order n i)
-  where
-    go : (n ≤ i) ⊎ (i < n) → getD xs i 0 < 64
-    go (inl past) =
-        let long : length xs ≡ n = ap length blank ∙ length-replicate {A = ℕ} n 0 in
-        let is : getD xs i 0 ≡ 0 = List·getD-eq-default xs 0 (omega arith) in
-        omega arith
-    go (inr inside) =
-        let is : getD xs i 0 ≡ 0 = ap (λ (ys : List ℕ). getD ys i 0) blank ∙ getD-replicate {A = ℕ} n i 0 0 inside in
-        omega arith
-
--- ── Chains ──
-
-pub onward-more :
-    (next : List ℕ) {i j count : ℕ} (f : ℕ) → i ≡ j + 1 → j < length next → i ≤ f → Onward i count next → Onward j count (set next j f)
-onward-more next {i} {j} {count} f is inside later old k from below = go (order i k)
-  where
-    go : (i ≤ k) ⊎ (k < i) → k < getD (set next j f) k 0
-    go (inl l) =
-        let kept : getD (set next j f) k 0 ≡ getD next k 0 = getD-set-other next j k f 0 (λ q. omega arith) in
-        let above = old k l below in
-        omega arith
-    go (inr l) =
-        let same : k ≡ j = omega arith in
-        let stored : getD (set next j f) k 0 ≡ f = ap (λ (x : ℕ). getD (set next j f) x 0) same ∙ getD-set-same next j f 0 inside in
-        omega arith
-
-pub first-more :
-    (first : List ℕ) {i j : ℕ} (s : ℕ) → i ≡ j + 1 → s < length first → ((v : ℕ) → v < 64 → i ≤ getD first v 0)
-    → (v : ℕ) → v < 64 → j ≤ getD (set first s j) v 0
-first-more first {i} {j} s is inside old v below = go (order s v) (order v s)
-  where
-    go : (s ≤ v) ⊎ (v < s) → (v ≤ s) ⊎ (s < v) → j ≤ getD (set first s j) v 0
-    go (inl a) (inl b) =
-        let same : v ≡ s = omega arith in
-        let stored : getD (set first s j) v 0 ≡ j = ap (λ (x : ℕ). getD (set first s j) x 0) same ∙ getD-set-same first s j 0 inside in
-        omega arith
-    go (inr a) other =
-        let kept : getD (set first s j) v 0 ≡ getD first v 0 = getD-set-other first s v j 0 (λ q. omega arith) in
-        let late = old v below in
-        omega arith
-    go (inl a) (inr b) =
-        let kept : getD (set first s j) v 0 ≡ getD first v 0 = getD-set-other first s v j 0 (λ q. omega arith) in
-        let late = old v below in
-        omega arith
-
--- ── Marks ──
-
-pub still-listed : (b : Bool) (x : ℕ) → b || eqb x 0 ≡ false → (b ≡ false) × (1 ≤ x)
-still-listed true x q = let z : _≡_ {A = ℕ} 0 1 = cc in absurd (omega arith)
-still-listed false zero q = let z : _≡_ {A = ℕ} 0 1 = cc in absurd (omega arith)
-still-listed false (suc x) q = (refl, omega arith)
+pub laid-all :
+    {sinks : List ℕ} {done : ℕ} {xs ys : List ℕ} {laid n : ℕ} → Laid sinks done xs ys laid → ((v : ℕ) → v < n → bit done v ≡ true)
+    → WordsInOrder sinks n xs ys laid
+laid-all done all = record { inside = done .inside; sound = done .sound; whole = λ s t l on. done .found s t (all s l) on; ahead = done .ahead }

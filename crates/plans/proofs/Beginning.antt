@@ -28,9 +28,10 @@ use Rattle.prepared.specs.Ready.{Ready}
 use Rattle.present.specs.Present.{Ordered, Timed}
 use Rattle.present.proofs.Ordering.{first-staged, first-ends, first-order, same-latency, timed-sizes}
 use Rattle.needed.specs.Needed.{Listed}
-use Rattle.plans.specs.Plans.{Lent, Starts, Begun, Followed}
+use Rattle.steps.specs.Steps.{Begun, Followed}
+use Rattle.steps.proofs.Worths.{few-none}
+use Rattle.plans.specs.Plans.{Lent, Starts}
 use Rattle.plans.proofs.FewEdges.{few-no-step}
-use Rattle.plans.proofs.Worths.{few-none}
 
 -- lists of 0
 pub blank-at : (n i : ℕ) → _≡_ {A = ℕ} (at (replicate n 0) i) 0
@@ -159,9 +160,9 @@ module _
         omega (arith, longer, same, size, as-many)
 
     pub begun :
-        {from to counts order-source order-sink order-delay : List ℕ} (end latest past past′ : List ℕ) → Ready g (firstStage g) from to counts →
-        Ordered g (firstStage g) (length graph-source) order-source order-sink order-delay → Timed g (firstStage g) end latest →
-        Begun g time output bound (length graph-source) many source sink delay from to counts order-source order-sink order-delay
+        {from to counts order-source order-sink order-delay sinks sources : List ℕ} (end latest past past′ : List ℕ) → Ready g (firstStage g) from to counts →
+        Ordered g (firstStage g) (length graph-source) order-source order-sink order-delay sinks sources → Timed g (firstStage g) end latest →
+        Begun g time output bound (length graph-source) many source sink delay from to counts order-source order-sink order-delay sinks sources
         (take (length time - 0) (end ++ past)) (take (length time - 0) (latest ++ past′))
     begun end latest past past′ ready ordered timed =
         let sizes = timed-sizes timed in

@@ -1,23 +1,17 @@
 -- With fewer than two edges there is no step: no pair subsumes more edges than there are.
 use mathlib.Core.Path.{_≡_}
-use mathlib.Core.Bool.{Bool, true, false}
 use mathlib.Core.List.{List}
 use mathlib.Core.Option.{none}
-use Prim.Native.Nat.{ℕ, _≤_, _<_, zero-le}
-use native.Mathlib.Nat.{le-refl}
+use Prim.Native.Nat.{ℕ, _<_}
 use native.Mathlib.Omega.{arith}
 use lib.ListN.{length}
-use Rattle.model.specs.Lists.{keep, counted}
+use Rattle.model.specs.Lists.{keep}
 use Rattle.model.specs.Tasks.{Edge}
 use Rattle.model.specs.Graph.{Graph, count}
 use Rattle.model.specs.Plan.{presentEdges, subsumes, isCandidate, worth, gain, step}
 use Rattle.model.proofs.Choices.{step-none}
 use Rattle.model.proofs.Plans.{length-keep}
-
-counted-most : (b : Bool) (w : ℕ) → counted b w ≤ w
-unfolding counted
-counted-most true w = le-refl w
-counted-most false w = zero-le
+use Rattle.steps.proofs.Worths.{counted-most}
 
 pub few-no-step : (g : Graph) (list : List Edge) → length list < 2 → step g list ≡ none
 unfolding worth gain

@@ -1,6 +1,3 @@
 -- The proofs that other crates may cite.
-pub mod Worths
-pub mod Stepping
 pub mod FewEdges
-pub mod Planning
 pub mod Beginning

@@ -1,35 +1,17 @@
-// The plan of a graph: its first stage, and steps from stage to stage until no candidate subsumes two edges. Least delays, how many edges each pair
-// of tasks subsumes, and the times of the first turn are kept from step to step.
-mod steps;
-mod walking;
-
+// The plan of a graph: its first stage, and steps from stage to stage until no candidate subsumes two edges.
 ghost use mathlib.Core.Path.{_≡_};
 ghost use Prim.Native.Nat.{ℕ, _*_, _≤_};
 ghost use lib.ListN.{length};
 ghost use Rattle.model.specs.Graph.{Graph};
 ghost use Rattle.records.specs.Columns.{at};
-ghost use Rattle.plans.specs.Plans.{Lent, Starts, Followed};
+ghost use Rattle.steps.specs.Steps.{Followed};
+ghost use Rattle.plans.specs.Plans.{Lent, Starts};
 use candidates::has_pair;
 use needed::first_stage;
 use prepared::start;
 use present::first_times;
-pub use steps::step;
-pub use walking::follow_steps;
-
-// What a step gives: whether a candidate was taken, which one, and how many edges the stage has after it.
-pub struct StepAnswer {
-    pub taken: bool,
-    pub source: usize,
-    pub sink: usize,
-    pub count: usize,
-}
-
-// Where the steps lead to: how many edges the last stage has, how many steps were taken, and the latency of the graph they lead to.
-pub struct Walked {
-    pub count: usize,
-    pub steps: u32,
-    pub latency: u32,
-}
+use steps::Walked;
+use steps::follow_steps;
 
 // The plan of an accepted graph from its first stage on, whose edges the lists hold; then they hold the plan's. The graph comes as its edges, its times, its
 // output, its bound, its latency and its table of least delays; five lists are for delays and counts. Where no pair may subsume two edges there is no step.
@@ -80,6 +62,8 @@ fn plan_from<'a, 'b>(
     let mut order_source: [u8; 576] = [0; 576];
     let mut order_sink: [u8; 576] = [0; 576];
     let mut order_delay: [u8; 576] = [0; 576];
+    let mut sinks: [u64; 64] = [0; 64];
+    let mut sources: [u64; 64] = [0; 64];
     let mut end: [u32; 64] = [0; 64];
     let mut latest: [u32; 64] = [0; 64];
     first_times(
@@ -92,6 +76,8 @@ fn plan_from<'a, 'b>(
         &mut order_source,
         &mut order_sink,
         &mut order_delay,
+        &mut sinks,
+        &mut sources,
         &mut end[0..tasks],
         &mut latest[0..tasks],
     );
@@ -112,6 +98,8 @@ fn plan_from<'a, 'b>(
         &mut order_source,
         &mut order_sink,
         &mut order_delay,
+        &mut sinks,
+        &mut sources,
         &mut end[0..tasks],
         &mut latest[0..tasks],
     )

@@ -1,13 +1,14 @@
 -- Edges that order the tasks as the present graph of a stage does have no cycle of delay 0 either, and its earliest ends and latest starts. A pair that asks
--- for nothing new keeps them.
+-- for nothing new keeps them. In the sets of the edges of delay 0 a pair is one bit more.
 use mathlib.Core.Path.{_≡_, refl, sym, ap, _∙_, subst}
 use mathlib.Core.Logic.{_⊎_}
-use mathlib.Core.Bool.{false}
+use mathlib.Core.Bool.{false, _||_}
 use mathlib.Core.List.{List, [], _∷_, _++_}
 use Prim.Native.Nat.{ℕ, _+_, _-_, _≤_, _<_}
 use native.Mathlib.Nat.{sub-zero}
 use native.Mathlib.Omega.{arith}
-use lib.ListN.{length, getD, take, length-take}
+use lib.Dec.{eqb}
+use lib.ListN.{length, getD, take, set, length-take, length-set}
 use Rattle.model.specs.Lists.{tabulate}
 use Rattle.model.specs.Tasks.{Edge, Ends}
 use Rattle.model.specs.Graph.{Graph, count, edges, timeOf}
@@ -26,10 +27,13 @@ use Rattle.model.proofs.Stages.{stage-accepted}
 use Rattle.model.proofs.Alike.{Alike, alike-back, alike-zero-cycle, alike-latency, pair-latency, first-alike, step-alike}
 use Rattle.records.specs.Columns.{edgesOf, at}
 use Rattle.records.proofs.Fill.{getD-tabulate, length-tabulate}
+use Rattle.reach.specs.Reach.{bit, bitAt}
+use Rattle.order.specs.Order.{ZeroSets}
+use Rattle.order.proofs.Found.{sets-more}
 use Rattle.latest.specs.Latest.{earliestEnds, LatestStarts}
 use Rattle.latest.proofs.Alike.{alike-latest, pair-latest}
 use Rattle.results.specs.Fronts.{HeldFront}
-use Rattle.results.proofs.Fronts.{held-edges}
+use Rattle.results.proofs.Fronts.{held-more, held-same, held-edges}
 use Rattle.present.specs.Present.{Staged, Clocked, Ordered, Timed, Adding}
 
 -- the first stage of an accepted graph
@@ -127,18 +131,30 @@ module _ {g : Graph} (graph : AcceptedGraph g) {es : List Edge} (is : es ≡ edg
   pub first-order : Alike (presentEdges g (firstStage g)) es
   first-order = subst (λ (xs : List Edge). Alike (presentEdges g (firstStage g)) xs) (sym is) (first-alike g graph)
 
-  pub first-ordered : {all : ℕ} {source sink delay : List ℕ} → HeldFront 576 all source sink delay es → Ordered g (firstStage g) all source sink delay
-  first-ordered front = record { es = es; front = front; ends = first-ends; held = first-order .held; held-back = first-order .held-back }
+  pub first-ordered :
+      {all : ℕ} {source sink delay sinks sources : List ℕ} → HeldFront 576 all source sink delay es → ZeroSets es sinks → length sources ≡ 64 →
+      Ordered g (firstStage g) all source sink delay sinks sources
+  first-ordered front sets as-many = record {
+    es = es;
+    front = front;
+    sets = sets;
+    as-many-sources = as-many;
+    ends = first-ends;
+    held = first-order .held;
+    held-back = first-order .held-back;
+  }
 
 -- ── A step ──
 
-module _ {g : Graph} {list : List Edge} {all : ℕ} {source sink delay : List ℕ} (ordered : Ordered g list all source sink delay) where
-  pub order-is : Alike (presentEdges g list) (ordered .es)
-  order-is = record { held = ordered .held; held-back = ordered .held-back }
+module _
+    {g : Graph} {list : List Edge} {all : ℕ} {source sink delay sinks sources : List ℕ} (ordered : Ordered g list all source sink delay sinks sources)
+  where
+    pub order-is : Alike (presentEdges g list) (ordered .es)
+    order-is = record { held = ordered .held; held-back = ordered .held-back }
 
 module _
-    {g : Graph} {list : List Edge} {a b : ℕ} {time : List ℕ} {output bound all : ℕ} {source sink delay end latest : List ℕ}
-    (adding : Adding g list a b time output bound all source sink delay end latest)
+    {g : Graph} {list : List Edge} {a b : ℕ} {time : List ℕ} {output bound all : ℕ} {source sink delay sinks sources end latest : List ℕ}
+    (adding : Adding g list a b time output bound all source sink delay sinks sources end latest)
   where
     abbrev pub with-pair : List Edge
     with-pair = adding .ordered .es ++ (pairEdge a b ∷ [])
@@ -159,6 +175,28 @@ module _
           omega (arith, lb, as-many),
         )
 
+    pub pair-small : (a < 64) × (b < 64)
+    pair-small =
+        let most = adding .now-staged .graph .formed .at-most-64 in
+        (omega (arith, la, most), omega (arith, lb, most))
+
+    pub sets-long : (length sinks ≡ 64) × (length sources ≡ 64)
+    sets-long = (adding .ordered .sets .room, adding .ordered .as-many-sources)
+
+    pub pair-sets : (word : ℕ) → ((t : ℕ) → bit word t ≡ bitAt sinks a t || eqb b t) → ZeroSets with-pair (set sinks a word)
+    unfolding pairEdge
+    pair-sets word stored = sets-more (adding .ordered .sets) (pairEdge a b) refl (pair-small .0) word stored
+
+    pub sources-long : (word : ℕ) → length (set sources b word) ≡ 64
+    sources-long word = length-set sources b word ∙ adding .ordered .as-many-sources
+
+    pub pair-front :
+        {source′ sink′ delay′ : List ℕ} → all < 576 → source′ ≡ set source all a → sink′ ≡ set sink all b → delay′ ≡ set delay all 0 →
+        HeldFront 576 (all + 1) source′ sink′ delay′ with-pair
+    unfolding pairEdge
+    pair-front space sources-are sinks-are delays-are =
+        held-same (held-more (pairEdge a b) (adding .ordered .front) space) refl refl sources-are sinks-are delays-are
+
     pub pair-ends : Ends (count g) with-pair
     pair-ends = added-ends (adding .ordered .ends) la lb
 
@@ -169,9 +207,17 @@ module _
         (order-is (adding .ordered))
 
     pub pair-ordered :
-        {all′ : ℕ} {source′ sink′ delay′ : List ℕ} → HeldFront 576 all′ source′ sink′ delay′ with-pair →
-        Ordered g (replaced g list a b) all′ source′ sink′ delay′
-    pair-ordered front = record { es = with-pair; front = front; ends = pair-ends; held = pair-order .held; held-back = pair-order .held-back }
+        {all′ : ℕ} {source′ sink′ delay′ sinks′ sources′ : List ℕ} → HeldFront 576 all′ source′ sink′ delay′ with-pair → ZeroSets with-pair sinks′ →
+        length sources′ ≡ 64 → Ordered g (replaced g list a b) all′ source′ sink′ delay′ sinks′ sources′
+    pair-ordered front sets as-many = record {
+      es = with-pair;
+      front = front;
+      sets = sets;
+      as-many-sources = as-many;
+      ends = pair-ends;
+      held = pair-order .held;
+      held-back = pair-order .held-back;
+    }
 
     -- the lists with the pair, as they are lent
     module _ {source′ sink′ delay′ : List ℕ} (front : HeldFront 576 (all + 1) source′ sink′ delay′ with-pair) where
@@ -195,6 +241,9 @@ module _
 
       pub lent-order : Alike (presentEdges g (replaced g list a b)) lent
       lent-order = subst (λ (es : List Edge). Alike (presentEdges g (replaced g list a b)) es) (sym lent-is) pair-order
+
+      pub lent-sets : {sinks′ : List ℕ} → ZeroSets with-pair sinks′ → ZeroSets lent sinks′
+      lent-sets {sinks′} = subst (λ (es : List Edge). ZeroSets es sinks′) (sym lent-is)
 
     -- the times of the edges before the pair
     end-of : (v : ℕ) → v < count g → at end v ≡ latency (count g) (adding .ordered .es) (timeOf g) v

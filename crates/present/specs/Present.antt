@@ -10,6 +10,7 @@ use Rattle.model.specs.Proposals.{AcceptedGraph, AcceptedProposal}
 use Rattle.model.specs.Plan.{presentEdges, replaced, Candidate}
 use Rattle.records.specs.Columns.{at}
 use Rattle.results.specs.Fronts.{HeldFront}
+use Rattle.order.specs.Order.{ZeroSets}
 use Rattle.starts.specs.Starts.{FileTimes}
 use Rattle.latest.specs.Latest.{earliestEnds, LatestStarts}
 
@@ -27,10 +28,13 @@ pub record Clocked (g : Graph) (time : List ℕ) (output bound : ℕ) : Type 0 w
   pub output-is : output ≡ g .output
   pub bound-is : bound ≡ g .bound
 
--- The fronts of three lists hold edges that order the tasks as the present graph of a stage does: each edge of either has its order held by the others.
-pub record Ordered (g : Graph) (list : List Edge) (all : ℕ) (source sink delay : List ℕ) : Type 0 where
+-- The fronts of three lists hold edges that order the tasks as the present graph of a stage does: each edge of either has its order held by the others. Sets
+-- hold those of delay 0; of the sets of their sources only the number is known, for they help no more than to find an order soon.
+pub record Ordered (g : Graph) (list : List Edge) (all : ℕ) (source sink delay sinks sources : List ℕ) : Type 0 where
   pub es : List Edge
   pub front : HeldFront 576 all source sink delay es
+  pub sets : ZeroSets es sinks
+  pub as-many-sources : length sources ≡ 64
   pub ends : Ends (count g) es
   pub held : AllHeld es (presentEdges g list)
   pub held-back : AllHeld (presentEdges g list) es
@@ -41,10 +45,10 @@ pub record Timed (g : Graph) (list : List Edge) (end latest : List ℕ) : Type 0
   pub latest-is : LatestStarts (count g) (presentEdges g list) (timeOf g) (g .output) (g .bound) latest
 
 -- all that is known of a stage when a step takes the pair (a, b)
-pub record Adding (g : Graph) (list : List Edge) (a b : ℕ) (time : List ℕ) (output bound all : ℕ) (source sink delay end latest : List ℕ) : Type 0 where
+pub record Adding (g : Graph) (list : List Edge) (a b : ℕ) (time : List ℕ) (output bound all : ℕ) (source sink delay sinks sources end latest : List ℕ) : Type 0 where
   pub now-staged : Staged g list
   pub next-staged : Staged g (replaced g list a b)
   pub pair : Candidate g list a b
   pub clocked : Clocked g time output bound
-  pub ordered : Ordered g list all source sink delay
+  pub ordered : Ordered g list all source sink delay sinks sources
   pub timed : Timed g list end latest

@@ -1,34 +1,38 @@
 // The present graph of a stage of the plan: how early its tasks end in the first turn, and how late they may start. They are found by the graph's own
-// edges and the pairs added so far, which order the tasks as the present graph does; a pair that asks for nothing new leaves them as they are.
+// edges and the pairs added so far, which order the tasks as the present graph does; a pair that asks for nothing new leaves them as they are. Those of
+// delay 0 are also kept in sets from step to step, to find an order of them.
 ghost use mathlib.Core.Path.{_≡_};
 ghost use mathlib.Core.Logic.{_⊎_};
 ghost use mathlib.Core.Bool.{true, false};
 ghost use mathlib.Core.List.{List};
 ghost use Prim.Native.Nat.{_+_, _≤_, _<_};
-ghost use lib.ListN.{length};
+ghost use lib.ListN.{length, replicate};
 ghost use Rattle.model.specs.Tasks.{Edge, Ends};
 ghost use Rattle.model.specs.Graph.{Graph, edges};
 ghost use Rattle.model.specs.Compute.{zeroCycle, latency};
 ghost use Rattle.model.specs.Proposals.{AcceptedGraph};
 ghost use Rattle.model.specs.Plan.{firstStage, replaced};
 ghost use Rattle.records.specs.Columns.{edgesOf, at};
+ghost use Rattle.order.specs.Order.{ZeroSets};
 ghost use Rattle.starts.specs.Starts.{FileTimes};
 ghost use Rattle.latest.specs.Latest.{earliestEnds, LatestStarts};
 ghost use Rattle.present.specs.Present.{Clocked, Ordered, Timed, Adding};
 use latest::ends_along;
 use latest::latest_along;
-use order::list_in_order;
+use order::list_sets;
 use results::append;
 use results::store;
 
 // From here on a latest start is that of a task that no path of delay 0 leads from to the output.
 const FAR: u32 = 1073741824;
 
-// How early tasks end in the first turn, and how late they may start: one order of the edges of delay 0 serves both.
+// How early tasks end in the first turn, and how late they may start: one order of the edges of delay 0, which come in sets too, serves both.
 fn task_times<'a, 'b>(
     source: &'a [u8],
     sink: &'a [u8],
     delay: &'a [u8],
+    sinks: &'a [u64],
+    sources: &'a [u64],
     time: &'a [u16],
     output: usize,
     bound: u32,
@@ -37,6 +41,7 @@ fn task_times<'a, 'b>(
 )
     requires { ⌜ (length (now sink) ≡ length (now source)) × (length (now delay) ≡ length (now source)) ⌝ }
     requires { ⌜ (length (now time) ≤ 64) × (length (now end) ≡ length (now time)) × (length (now latest) ≡ length (now time)) × (output < length (now time)) ⌝ }
+    requires { ⌜ ZeroSets (edgesOf (now source) (now sink) (now delay)) (now sinks) × (length (now sources) ≡ 64) ⌝ }
     requires { ⌜ Ends (length (now time)) (edgesOf (now source) (now sink) (now delay)) ⌝ }
     requires { ⌜ zeroCycle (length (now time)) (edgesOf (now source) (now sink) (now delay)) ≡ false ⌝ }
     requires { ⌜ FileTimes (now time) ⌝ }
@@ -46,10 +51,9 @@ fn task_times<'a, 'b>(
 {
     let mut order_source: [u8; 576] = [0; 576];
     let mut order_sink: [u8; 576] = [0; 576];
-    let order = list_in_order(
-        source,
-        sink,
-        delay,
+    let order = list_sets(
+        sinks,
+        sources,
         time.len(),
         &mut order_source,
         &mut order_sink,
@@ -111,7 +115,7 @@ fn asks_nothing<'a>(end: &'a [u32], latest: &'a [u32], time: &'a [u16], a: usize
     in_time_for(latest[a], time[a], latest[b])
 }
 
-// The edges of an accepted graph, into lists, and the times of its first stage: what the first stage drops changes none.
+// The edges of an accepted graph, into lists and empty sets, and the times of its first stage: what the first stage drops changes none.
 pub fn first_times<'a, 'b>(
     source: &'a [u8],
     sink: &'a [u8],
@@ -122,18 +126,33 @@ pub fn first_times<'a, 'b>(
     to_source: &'b mut [u8],
     to_sink: &'b mut [u8],
     to_delay: &'b mut [u8],
+    sinks: &'b mut [u64],
+    sources: &'b mut [u64],
     end: &'b mut [u32],
     latest: &'b mut [u32],
 )
     requires { ⌜ (length (now sink) ≡ length (now source)) × (length (now delay) ≡ length (now source)) × (length (now source) ≤ 576) ⌝ }
     requires { ⌜ (length (now «to_source») ≡ 576) × (length (now «to_sink») ≡ 576) × (length (now «to_delay») ≡ 576) ⌝ }
+    requires { ⌜ (now sinks ≡ replicate 64 0) × (now sources ≡ replicate 64 0) ⌝ }
     requires { ⌜ (length (now end) ≡ length (now time)) × (length (now latest) ≡ length (now time)) ⌝ }
     requires { ⌜ ((g : Graph) × AcceptedGraph g × Clocked g (now time) output bound × (edgesOf (now source) (now sink) (now delay) ≡ edges g)) ⌝ }
-    ensures ordered { λ _. ⌜ ((g : Graph) → AcceptedGraph g → edgesOf (now (source .entry)) (now (sink .entry)) (now (delay .entry)) ≡ edges g → Ordered g (firstStage g) (length (now (source .entry))) (now («to_source» .exit)) (now («to_sink» .exit)) (now («to_delay» .exit))) ⌝ }
+    ensures ordered { λ _. ⌜ ((g : Graph) → AcceptedGraph g → edgesOf (now (source .entry)) (now (sink .entry)) (now (delay .entry)) ≡ edges g → Ordered g (firstStage g) (length (now (source .entry))) (now («to_source» .exit)) (now («to_sink» .exit)) (now («to_delay» .exit)) (now (sinks .exit)) (now (sources .exit))) ⌝ }
     ensures timed { λ _. ⌜ ((g : Graph) → AcceptedGraph g → Clocked g (now (time .entry)) output bound → edgesOf (now (source .entry)) (now (sink .entry)) (now (delay .entry)) ≡ edges g → Timed g (firstStage g) (now (end .exit)) (now (latest .exit))) ⌝ }
 {
     append(source, sink, delay, 0, to_source, to_sink, to_delay);
-    task_times(source, sink, delay, time, output, bound, end, latest);
+    sets::take_edges(source, sink, delay, sinks, sources);
+    task_times(
+        source,
+        sink,
+        delay,
+        sinks,
+        sources,
+        time,
+        output,
+        bound,
+        end,
+        latest,
+    );
 }
 
 // The edges with the pair (a, b) added to them, and the times of the stage after the step that takes it.
@@ -147,15 +166,19 @@ pub fn next_times<'a, 'b>(
     source: &'b mut [u8],
     sink: &'b mut [u8],
     delay: &'b mut [u8],
+    sinks: &'b mut [u64],
+    sources: &'b mut [u64],
     end: &'b mut [u32],
     latest: &'b mut [u32],
 )
     requires { ⌜ all < 576 ⌝ }
-    requires { ⌜ ((g : Graph) × (list : List Edge) × Adding g list a b (now time) output bound all (now source) (now sink) (now delay) (now end) (now latest)) ⌝ }
-    ensures ordered { λ _. ⌜ ((g : Graph) (list : List Edge) → Adding g list a b (now (time .entry)) output bound all (now (source .entry)) (now (sink .entry)) (now (delay .entry)) (now (end .entry)) (now (latest .entry)) → Ordered g (replaced g list a b) (all + 1) (now (source .exit)) (now (sink .exit)) (now (delay .exit))) ⌝ }
-    ensures timed { λ _. ⌜ ((g : Graph) (list : List Edge) → Adding g list a b (now (time .entry)) output bound all (now (source .entry)) (now (sink .entry)) (now (delay .entry)) (now (end .entry)) (now (latest .entry)) → Timed g (replaced g list a b) (now (end .exit)) (now (latest .exit))) ⌝ }
+    requires { ⌜ ((g : Graph) × (list : List Edge) × Adding g list a b (now time) output bound all (now source) (now sink) (now delay) (now sinks) (now sources) (now end) (now latest)) ⌝ }
+    ensures ordered { λ _. ⌜ ((g : Graph) (list : List Edge) → Adding g list a b (now (time .entry)) output bound all (now (source .entry)) (now (sink .entry)) (now (delay .entry)) (now (sinks .entry)) (now (sources .entry)) (now (end .entry)) (now (latest .entry)) → Ordered g (replaced g list a b) (all + 1) (now (source .exit)) (now (sink .exit)) (now (delay .exit)) (now (sinks .exit)) (now (sources .exit))) ⌝ }
+    ensures timed { λ _. ⌜ ((g : Graph) (list : List Edge) → Adding g list a b (now (time .entry)) output bound all (now (source .entry)) (now (sink .entry)) (now (delay .entry)) (now (sinks .entry)) (now (sources .entry)) (now (end .entry)) (now (latest .entry)) → Timed g (replaced g list a b) (now (end .exit)) (now (latest .exit))) ⌝ }
 {
     store(a as u8, b as u8, 0, all, source, sink, delay);
+    sinks[a] = sets::with_task(sinks[a], b);
+    sources[b] = sets::with_task(sources[b], a);
     if asks_nothing(end, latest, time, a, b) {
         return;
     }
@@ -164,6 +187,8 @@ pub fn next_times<'a, 'b>(
         &source[0..count],
         &sink[0..count],
         &delay[0..count],
+        sinks,
+        sources,
         time,
         output,
         bound,

@@ -15,7 +15,7 @@ pub struct Reach {
 }
 
 // A word with one bit set.
-fn with_bit(word: u64, at: usize) -> u64
+pub fn with_bit(word: u64, at: usize) -> u64
     requires { ⌜ at < 64 ⌝ }
     ensures { λ r. ⌜ ((b : ℕ) → bit r b ≡ bit word b || eqb at b) ⌝ }
 {

@@ -1,24 +1,25 @@
 -- Two records that begin at a byte's start are five bytes: what shifts and masks leave of these are the fields of both (a field inside a longer
--- one). And what two stores of a loop make of a list that it fills, or of a part that grows at its end; such a part behind a filled front.
+-- one). And what two stores of a loop make of a list that it fills; a block of edges as a part behind a filled front.
 use mathlib.Core.Path.{_≡_, sym, ap, _∙_, subst}
 use mathlib.Core.Logic.{_⊎_, inl, inr}
-use mathlib.Core.List.{List, _∷_, _++_, append-assoc}
-use Prim.Native.Nat.{ℕ, suc, _+_, _-_, _/_, _%_, _^_, _≤_, _<_}
-use native.Mathlib.Numerals.{add-one}
+use mathlib.Core.List.{List}
+use Prim.Native.Nat.{ℕ, _+_, _-_, _/_, _%_, _^_, _≤_, _<_}
 use native.Mathlib.Omega.{arith}
 use lib.Bits.{bitAnd, and-mask, and-le-r}
-use lib.ListN.{length, getD, take, drop, set, length-append, length-set, take-append-drop}
-use lib.Seq.{length-take-le, drop-cons, append-snoc, set-at, getD-take}
-use mir.Syntax.{Width}
+use lib.ListN.{length, getD, take, set}
+use lib.Seq.{length-take-le, getD-take}
+use borrow.Rule.Slice.PartMut.{putMid}
+use mir.Syntax.{Width, w32}
 use mir.Val.{Fits, bits}
 use Rattle.bits.specs.Bits.{field}
-use Rattle.bits.proofs.Laws.{field-inside, field-low}
+use Rattle.bits.proofs.Laws.{field-below, field-inside, field-high, field-low}
 use Rattle.layout.specs.Layout.{taskAt, edgeAt, recordBits, recordStart}
 use Rattle.model.specs.Lists.{tabulate}
+use Rattle.model.specs.Tasks.{Edge}
 use Rattle.model.proofs.Basics.{order}
-use Rattle.records.specs.Columns.{withPart}
+use Rattle.records.specs.Columns.{withPart, edgeIn}
 use Rattle.records.proofs.Fill.{Filled, filled-more, length-tabulate, getD-tabulate}
-use Rattle.records.proofs.Parts.{part-length, part-before, part-inside, each-is}
+use Rattle.records.proofs.Parts.{put-part, part-length, part-before, part-inside, each-is}
 
 -- what a mask leaves fits where the mask does
 pub masked : {w : Width} (n mask : ℕ) → mask < 2 ^ bits w → Fits w (bitAnd n mask)
@@ -43,20 +44,14 @@ module _ (s : List ℕ) {start two first second : ℕ} (is : two ≡ field s sta
       last : bitAnd two 65535 ≡ field s (second + 4) 16
       last = and-mask two 16 ∙ (ap (λ n. n % 65536) is ∙ (field-low s start 24 16 ∙ ap (λ p. field s p 16) (omega arith)))
 
-  pub sources : (bitAnd (two / 2 ^ 34) 63 ≡ edgeAt s first .source) × (bitAnd (two / 2 ^ 14) 63 ≡ edgeAt s second .source)
-  unfolding edgeAt
-  sources = (part 0 6 34 (omega arith) (omega arith), part 20 6 14 (omega arith) (omega arith))
+  pub halves : (two / 2 ^ 20 ≡ field s first recordBits) × (bitAnd two 1048575 ≡ field s second recordBits)
+  halves = (
+    ap (λ n. n / 2 ^ 20) is ∙ (field-high s start 20 20 ∙ ap (λ p. field s p 20) here),
+    and-mask two 20 ∙ (ap (λ n. n % 2 ^ 20) is ∙ (field-low s start 20 20 ∙ ap (λ p. field s p 20) next)),
+  )
 
-  pub sinks : (bitAnd (two / 2 ^ 28) 63 ≡ edgeAt s first .sink) × (bitAnd (two / 2 ^ 8) 63 ≡ edgeAt s second .sink)
-  unfolding edgeAt
-  sinks = (part 6 6 28 (omega arith) (omega arith), part 26 6 8 (omega arith) (omega arith))
-
-  pub delays : (bitAnd (two / 2 ^ 20) 255 ≡ edgeAt s first .delay) × (bitAnd two 255 ≡ edgeAt s second .delay)
-  unfolding edgeAt
-  delays = (part 12 8 20 (omega arith) (omega arith), last)
-    where
-      last : bitAnd two 255 ≡ field s (second + 12) 8
-      last = and-mask two 8 ∙ (ap (λ n. n % 256) is ∙ (field-low s start 32 8 ∙ ap (λ p. field s p 8) (omega arith)))
+  pub halves-fit : Fits w32 (two / 2 ^ 20)
+  halves-fit = record { fits = omega (arith, halves .0, field-below s first recordBits) }
 
 pub filled-two :
     {f : ℕ → ℕ} {n k : ℕ} {xs : List ℕ} {a b : ℕ} → Filled f n k xs → k + 1 < n → (a ≡ f k) × (b ≡ f (k + 1))
@@ -65,51 +60,34 @@ filled-two {f} {n} {k} {xs} {a} {b} done below are =
     subst (λ (j : ℕ). Filled f n j (set (set xs k a) (k + 1) b)) (omega arith)
     (filled-more b (filled-more a done (omega arith) (are .0)) below (are .1))
 
--- ── A part that grows at its end ──
+-- ── A block of edges ──
 
--- ys is xs with f 0, f 1, .. in the places from a up to k; both have n elements.
-pub record Grown (f : ℕ → ℕ) (n a k : ℕ) (xs ys : List ℕ) : Type 0 where
-  pub room : length xs ≡ n
-  pub size : length ys ≡ n
-  pub part : ys ≡ withPart a k f xs
-
-pub grown-none : (f : ℕ → ℕ) (n a : ℕ) {xs : List ℕ} → length xs ≡ n → Grown f n a a xs xs
-unfolding withPart tabulate
-grown-none f n a {xs} same =
-    let none : a - a ≡ 0 = omega arith in
-    record { room = same; size = same; part = rw none (sym (take-append-drop a xs)) }
-
-grown-more :
-    {f : ℕ → ℕ} {n a k : ℕ} {xs ys : List ℕ} (b : ℕ) → Grown f n a k xs ys → a ≤ k → k < n → b ≡ f (k - a) → Grown f n a (k + 1) xs (set ys k b)
-unfolding withPart tabulate
-grown-more {f} {n} {a} {k} {xs} {ys} b done from below is =
-    let inside : k < length xs = subst (λ (m : ℕ). k < m) (sym (done .room)) below in
-    let long : length (take a xs ++ tabulate (k - a) f) ≡ k
-    = length-append (take a xs) (tabulate (k - a) f) ∙ omega (arith, length-take-le a xs (omega arith), length-tabulate (k - a) f) in
-    let cut : ys ≡ take a xs ++ tabulate (k - a) f ++ getD xs k 0 ∷ drop (suc k) xs
-    = done .part ∙
-    (sym (append-assoc (take a xs) (tabulate (k - a) f) (drop k xs)) ∙
-    ap (λ (zs : List ℕ). take a xs ++ tabulate (k - a) f ++ zs) (drop-cons xs k 0 inside)) in
-    let more : suc k - a ≡ suc (k - a) = omega arith in
-    record {
-      room = done .room;
-      size = length-set ys k b ∙ done .size;
-      part =
-          ap (λ (zs : List ℕ). set zs k b) cut ∙
-          (set-at (take a xs ++ tabulate (k - a) f) (getD xs k 0) (drop (suc k) xs) b k long ∙
-          (append-assoc (take a xs) (tabulate (k - a) f) (b ∷ drop (suc k) xs) ∙
-          rw (add-one k, more, is) (ap (λ (zs : List ℕ). take a xs ++ zs) (sym (append-snoc (tabulate (k - a) f) (f (k - a)) (drop (suc k) xs))))));
+-- the 20 bits of an edge record have its three fields
+edge-in-record : (s : List ℕ) (at : ℕ) → edgeIn (field s at recordBits) ≡ edgeAt s at
+unfolding edgeIn edgeAt
+edge-in-record s at =
+    let whole : at + 0 ≡ at = omega arith in
+    λ x. record {
+      source = (field-inside s at 0 6 14 20 (omega arith) ∙ ap (λ (p : ℕ). field s p 6) whole) x;
+      sink = field-inside s at 6 6 8 20 (omega arith) x;
+      delay = field-low s at 12 8 x;
     }
 
-pub grown-two :
-    {f : ℕ → ℕ} {n a k : ℕ} {xs ys : List ℕ} {b c : ℕ} → Grown f n a k xs ys → a ≤ k → k + 1 < n → (b ≡ f (k - a)) × (c ≡ f (k + 1 - a))
-    → Grown f n a (k + 2) xs (set (set ys k b) (k + 1) c)
-grown-two {f} {n} {a} {k} {xs} {ys} {b} {c} done from below are =
-    subst (λ (m : ℕ). Grown f n a m xs (set (set ys k b) (k + 1) c)) (omega arith)
-    (grown-more c (grown-more b done from (omega arith) (are .0)) (omega arith) below (are .1))
+-- one number of each edge of a block, if the block has the records from a position on
+block-edges :
+    (part : Edge → ℕ) (s : List ℕ) (start n : ℕ) (block : List ℕ) {ys : List ℕ} → take n block ≡ tabulate n (λ k. field s (recordStart start k) recordBits)
+    → ys ≡ tabulate n (λ k. part (edgeIn (getD block k 0))) → ys ≡ tabulate n (λ k. part (edgeAt s (recordStart start k)))
+block-edges part s start n block {ys} held is =
+    each-is n (λ k. part (edgeAt s (recordStart start k))) ys (ap length is ∙ length-tabulate n (λ k. part (edgeIn (getD block k 0))))
+    (λ i l.
+    let entry : getD block i 0 ≡ field s (recordStart start i) recordBits
+    = sym (getD-take n block i 0 l) ∙
+    (ap (λ (zs : List ℕ). getD zs i 0) held ∙ getD-tabulate n (λ k. field s (recordStart start k) recordBits) 0 i l) in
+    ap (λ (zs : List ℕ). getD zs i 0) is ∙
+    (getD-tabulate n (λ k. part (edgeIn (getD block k 0))) 0 i l ∙ (ap (λ (m : ℕ). part (edgeIn m)) entry ∙ ap part (edge-in-record s (recordStart start i)))))
 
 -- Behind a front that is filled with the records from a position on, such a part goes on with the records from where the front ends.
-pub filled-part :
+filled-part :
     (f : ℕ → ℕ) (position at : ℕ) {n k r : ℕ} {xs ys : List ℕ} → Filled (λ i. f (recordStart position i)) n k xs → at ≡ recordStart position k
     → k ≤ r → r ≤ n → ys ≡ withPart k r (λ i. f (recordStart at i)) xs → Filled (λ i. f (recordStart position i)) n r ys
 filled-part f position at {n} {k} {r} {xs} {ys} done here from within is =
@@ -131,3 +109,16 @@ filled-part f position at {n} {k} {r} {xs} {ys} done here from within is =
         let place : recordStart at (i - k) ≡ recordStart position i = omega (arith, here, there) in
         ap (λ (p : ℕ). getD (withPart k r (λ j. f (recordStart at j)) xs) p 0) (sym there) ∙
         (part-inside k r (λ j. f (recordStart at j)) xs from inside (i - k) (omega arith) ∙ ap f place)
+
+-- So a front that is filled with one number of each edge grows by those of a block, which come back as a part of the list.
+pub filled-block :
+    (part : Edge → ℕ) (s : List ℕ) (position : ℕ) {at start n j : ℕ} (count : ℕ) (block : List ℕ) {xs ys : List ℕ} {m : ℕ}
+    → Filled (λ i. part (edgeAt s (recordStart position i))) n j xs → at ≡ recordStart position j → start ≡ at → j + count ≤ n → m ≡ j + count - j
+    → take count block ≡ tabulate count (λ k. field s (recordStart start k) recordBits) → ys ≡ tabulate m (λ k. part (edgeIn (getD block k 0)))
+    → Filled (λ i. part (edgeAt s (recordStart position i))) n (j + count) (putMid j (j + count - j) xs ys)
+filled-block part s position {at} {start} {n} {j} count block {xs} {ys} {m} done here from within as-many held is =
+    let size : m ≡ count = omega arith in
+    filled-part (λ p. part (edgeAt s p)) position start done (from ∙ here) (omega arith) within
+    (put-part j (j + count) (λ k. part (edgeAt s (recordStart start k))) xs (omega arith) as-many
+    (subst (λ (r : ℕ). ys ≡ tabulate r (λ k. part (edgeAt s (recordStart start k)))) (sym size)
+    (block-edges part s start count block held (subst (λ (r : ℕ). ys ≡ tabulate r (λ k. part (edgeIn (getD block k 0)))) size is))))

@@ -15,7 +15,13 @@ pub record FirstTasks (processor : List ℕ) (from : ℕ) (first : List ℕ) : T
   pub room : length first ≡ 256
   pub each : (p : ℕ) → p < 256 → FirstOn processor p from (getD first p 0)
 
--- The list has the next task on its processor, for each task from a task on.
+-- r is a task; or 64, which stands for none.
+pub data TaskOrNone (processor : List ℕ) (r : ℕ) : Type 0 where
+  task : r < length processor → TaskOrNone processor r
+  none : r ≡ 64 → TaskOrNone processor r
+
+-- The list has the next task on its processor, for each task from a task on; 64, if there is none.
 pub record NextTasks (processor : List ℕ) (from : ℕ) (next : List ℕ) : Type 0 where
-  pub room : length next ≡ 64
+  pub room : length next ≡ length processor
   pub each : (v : ℕ) → from ≤ v → v < length processor → FirstOn processor (getD processor v 0) (v + 1) (getD next v 0)
+  pub told : (v : ℕ) → from ≤ v → v < length processor → TaskOrNone processor (getD next v 0)

@@ -2,15 +2,15 @@
 ghost use mathlib.Core.Path.{_≡_};
 ghost use mathlib.Core.Bool.{true};
 ghost use mathlib.Core.List.{List};
-ghost use Prim.Native.Nat.{_+_, _*_, _/_, _^_, _≤_, _<_};
+ghost use Prim.Native.Nat.{_+_, _*_, _/_, _≤_, _<_};
 ghost use lib.ListN.{length, getD, take, replicate};
 ghost use Rattle.model.specs.Lists.{tabulate};
 ghost use Rattle.model.specs.Tasks.{Task};
 ghost use Rattle.model.specs.Processors.{processorEdge};
-ghost use Rattle.layout.specs.Layout.{graphHeaderBits, recordStart, taskAt, edgeAt};
-ghost use Rattle.records.specs.Columns.{withPart, ProcessorsOf, edgeOf};
-ghost use Rattle.records.specs.Nexts.{FirstOn, FirstTasks, NextTasks};
-use layout::EdgeRecord;
+ghost use Rattle.bits.specs.Bits.{field};
+ghost use Rattle.layout.specs.Layout.{graphHeaderBits, recordBits, recordStart, taskAt, edgeAt};
+ghost use Rattle.records.specs.Columns.{withPart, ProcessorsOf, edgeIn};
+ghost use Rattle.records.specs.Nexts.{FirstTasks, NextTasks};
 use layout::GRAPH_HEADER_BITS;
 use layout::RECORD_BITS;
 
@@ -52,45 +52,64 @@ pub fn read_tasks<'a>(bytes: &[u8], processor: &'a mut [u8], time: &'a mut [u16]
     }
 }
 
-// Reads edges two at once, from edge `first` at a bit position on, if that is a byte's start: as long as there are two to read and five bytes to
-// read them from. Gives how many are read, those before `first` included. A loop of its own tests less than one that reads single edges too.
-fn pairs_from<'a>(
-    bytes: &[u8],
-    position: usize,
-    first: usize,
-    source: &'a mut [u8],
-    sink: &'a mut [u8],
-    delay: &'a mut [u8],
-) -> usize
-    requires { ⌜ position < 2 ^ 32 ⌝ }
-    requires { ⌜ (first ≤ length (now source)) × (length (now source) ≤ 256) ⌝ }
+// Pairs of edges that are read at once at most.
+const PAIRS: usize = 16;
+
+// Room for these edges.
+const BLOCK: usize = 2 * PAIRS;
+
+// How many pairs of edges to read at once from a bit position on, where so many edges are left: none if that is not a byte's start, or fewer than
+// two edges are left, or their bytes are not all there.
+fn block_at(bytes: &[u8], at: usize, left: usize) -> usize
+    ensures { λ r. ⌜ (r ≤ 16) × (2 * r ≤ left) ⌝ }
+    ensures { λ r. ⌜ (0 < r → (at / 8 * 8 ≡ at) × (at / 8 + 5 * r ≤ length (now (bytes .entry)))) ⌝ }
+{
+    if at & 7 != 0 {
+        return 0;
+    }
+    let mut pairs = left >> 1;
+    if pairs > PAIRS {
+        pairs = PAIRS;
+    }
+    if (at >> 3) + 5 * pairs > bytes.len() {
+        return 0;
+    }
+    pairs
+}
+
+// Pairs of edges from a byte on, five bytes each, to the front of a block: each edge as one number of 20 bits.
+fn fetch<'a>(bytes: &[u8], i: usize, pairs: usize, block: &'a mut [u32])
+    requires { ⌜ i + 5 * pairs ≤ length (now bytes) ⌝ }
+    requires { ⌜ 2 * pairs ≤ length (now block) ⌝ }
+    ensures { λ _. ⌜ take (2 * pairs) (now (block .exit)) ≡ tabulate (2 * pairs) (λ k. field (now (bytes .entry)) (recordStart (i * 8) k) recordBits) ⌝ }
+{
+    let mut k = 0;
+    while k < pairs {
+        let two = bits::five_within(bytes, i + 5 * k);
+        block[2 * k] = (two >> 20) as u32;
+        block[2 * k + 1] = (two & 0xfffff) as u32;
+        k += 1;
+    }
+}
+
+// The edges at the front of a block split into source, sink and delay. A loop of its own with shifts and masks alone: it is compiled to work on
+// many edges at once.
+fn split<'a>(block: &[u32], source: &'a mut [u8], sink: &'a mut [u8], delay: &'a mut [u8])
+    requires { ⌜ length (now source) ≤ length (now block) ⌝ }
     requires { ⌜ length (now sink) ≡ length (now source) ⌝ }
     requires { ⌜ length (now delay) ≡ length (now source) ⌝ }
-    ensures { λ r. ⌜ (first ≤ r) × (r ≤ length (now (source .entry))) ⌝ }
-    ensures { λ r. ⌜ now (source .exit) ≡ withPart first r (λ k. edgeAt (now (bytes .entry)) (recordStart position k) .source) (now (source .entry)) ⌝ }
-    ensures { λ r. ⌜ now (sink .exit) ≡ withPart first r (λ k. edgeAt (now (bytes .entry)) (recordStart position k) .sink) (now (sink .entry)) ⌝ }
-    ensures { λ r. ⌜ now (delay .exit) ≡ withPart first r (λ k. edgeAt (now (bytes .entry)) (recordStart position k) .delay) (now (delay .entry)) ⌝ }
+    ensures { λ _. ⌜ now (source .exit) ≡ tabulate (length (now (source .entry))) (λ k. edgeIn (getD (now (block .entry)) k 0) .source) ⌝ }
+    ensures { λ _. ⌜ now (sink .exit) ≡ tabulate (length (now (source .entry))) (λ k. edgeIn (getD (now (block .entry)) k 0) .sink) ⌝ }
+    ensures { λ _. ⌜ now (delay .exit) ≡ tabulate (length (now (source .entry))) (λ k. edgeIn (getD (now (block .entry)) k 0) .delay) ⌝ }
 {
-    if position & 7 != 0 {
-        return first;
+    let mut k = 0;
+    while k < source.len() {
+        let one = block[k];
+        source[k] = ((one >> 14) & 0x3f) as u8;
+        sink[k] = ((one >> 8) & 0x3f) as u8;
+        delay[k] = (one & 0xff) as u8;
+        k += 1;
     }
-    let mut i = position >> 3;
-    let mut j = first;
-    while j + 1 < source.len() {
-        if i + 4 >= bytes.len() {
-            return j;
-        }
-        let two = bits::five_within(bytes, i);
-        source[j] = ((two >> 34) & 0x3f) as u8;
-        sink[j] = ((two >> 28) & 0x3f) as u8;
-        delay[j] = ((two >> 20) & 0xff) as u8;
-        source[j + 1] = ((two >> 14) & 0x3f) as u8;
-        sink[j + 1] = ((two >> 8) & 0x3f) as u8;
-        delay[j + 1] = (two & 0xff) as u8;
-        i += 5;
-        j += 2;
-    }
-    j
 }
 
 // The edges of a file from a bit position on, as many as the lists have room for.
@@ -109,13 +128,23 @@ pub fn read_edges<'a>(
     ensures { λ _. ⌜ now (sink .exit) ≡ tabulate (length (now (source .entry))) (λ j. edgeAt (now (bytes .entry)) (recordStart position j) .sink) ⌝ }
     ensures { λ _. ⌜ now (delay .exit) ≡ tabulate (length (now (source .entry))) (λ j. edgeAt (now (bytes .entry)) (recordStart position j) .delay) ⌝ }
 {
+    let mut block: [u32; BLOCK] = [0; BLOCK];
     let mut at = position;
     let mut j = 0;
     while j < source.len() {
-        let read = pairs_from(bytes, at, j, source, sink, delay);
-        at += RECORD_BITS * (read - j);
-        j = read;
-        if j < source.len() {
+        let pairs = block_at(bytes, at, source.len() - j);
+        if pairs > 0 {
+            fetch(bytes, at >> 3, pairs, &mut block);
+            let to = j + 2 * pairs;
+            split(
+                &block,
+                &mut source[j..to],
+                &mut sink[j..to],
+                &mut delay[j..to],
+            );
+            at += PAIR_BITS * pairs;
+            j = to;
+        } else {
             let edge = layout::edge_at(bytes, at);
             source[j] = edge.source;
             sink[j] = edge.sink;
@@ -126,29 +155,14 @@ pub fn read_edges<'a>(
     }
 }
 
-// What a search over the tasks finds: for each task the next one on its processor, for each processor its first task.
-struct Found {
-    next: [u8; 64],
-    first: [u8; 256],
-}
-
 // No task.
 const NONE: u8 = 64;
 
-// Nothing found yet.
-fn none_found() -> Found
-    ensures { λ r. ⌜ (length (r .next) ≡ 64) × (r .first ≡ replicate 256 64) ⌝ }
-{
-    Found {
-        next: [NONE; 64],
-        first: [NONE; 256],
-    }
-}
-
-// One pass from the last task to the first: the first task on a processor from a task on is the next one for the task before.
+// For each task the next one on its processor, for each processor its first task. One pass from the last task to the first: the first task on a
+// processor from a task on is the next one for the task before.
 fn find_next<'a>(processor: &[u8], next: &'a mut [u8], first: &'a mut [u8])
-    requires { ⌜ (length (now processor) ≤ 64) × (length (now next) ≡ 64) ⌝ }
-    requires { ⌜ FirstTasks (now processor) (length (now processor)) (now first) ⌝ }
+    requires { ⌜ (length (now processor) ≤ 64) × (length (now next) ≡ length (now processor)) ⌝ }
+    requires { ⌜ now first ≡ replicate 256 64 ⌝ }
     ensures { λ _. ⌜ NextTasks (now (processor .entry)) 0 (now (next .exit)) ⌝ }
     ensures { λ _. ⌜ FirstTasks (now (processor .entry)) 0 (now (first .exit)) ⌝ }
 {
@@ -161,28 +175,8 @@ fn find_next<'a>(processor: &[u8], next: &'a mut [u8], first: &'a mut [u8])
     }
 }
 
-// The processor edge out of a task: to the next task on its processor with delay 0, from the last to the first with delay 1.
-fn processor_edge(processor: &[u8], v: usize, next: u8, first: u8) -> EdgeRecord
-    requires { ⌜ (v < length (now processor)) × (length (now processor) ≤ 64) ⌝ }
-    requires { ⌜ FirstOn (now processor) (getD (now processor) v 0) (v + 1) next ⌝ }
-    requires { ⌜ FirstOn (now processor) (getD (now processor) v 0) 0 first ⌝ }
-    ensures { λ r. ⌜ ((ts : List Task) → ProcessorsOf ts (now (processor .entry)) → edgeOf r ≡ processorEdge ts v) ⌝ }
-{
-    if (next as usize) < processor.len() {
-        return EdgeRecord {
-            source: v as u8,
-            sink: next,
-            delay: 0,
-        };
-    }
-    EdgeRecord {
-        source: v as u8,
-        sink: first,
-        delay: 1,
-    }
-}
-
-// The processor edges, one out of each task, in the tasks' sequence.
+// The processor edges, one out of each task, in the tasks' sequence: to the next task on its processor with delay 0, from the last to the first
+// with delay 1. The sinks are first the next tasks; where there is none, NONE shifted is the delay, and the first task takes its place.
 pub fn processor_edges<'a>(
     processor: &[u8],
     source: &'a mut [u8],
@@ -197,18 +191,20 @@ pub fn processor_edges<'a>(
     ensures { λ _. ⌜ ((ts : List Task) → ProcessorsOf ts (now (processor .entry)) → now (sink .exit) ≡ tabulate (length ts) (λ v. processorEdge ts v .sink)) ⌝ }
     ensures { λ _. ⌜ ((ts : List Task) → ProcessorsOf ts (now (processor .entry)) → now (delay .exit) ≡ tabulate (length ts) (λ v. processorEdge ts v .delay)) ⌝ }
 {
-    let found = none_found();
-    let mut next = found.next;
-    let mut first = found.first;
-    find_next(processor, &mut next, &mut first);
+    let mut first: [u8; 256] = [NONE; 256];
+    find_next(processor, sink, &mut first);
     let mut v = 0;
     while v < processor.len() {
-        let own = processor[v] as usize;
-        let edge = processor_edge(processor, v, next[v], first[own]);
-        source[v] = edge.source;
-        sink[v] = edge.sink;
-        delay[v] = edge.delay;
+        source[v] = v as u8;
+        delay[v] = sink[v] >> 6;
         v += 1;
+    }
+    let mut w = 0;
+    while w < processor.len() {
+        if sink[w] >= NONE {
+            sink[w] = first[processor[w] as usize];
+        }
+        w += 1;
     }
 }
 

@@ -13,30 +13,30 @@ use Rattle.redundancy.proofs.Linked.{ends-below}
 -- so many of the rows are taken, and the others blank
 pub record CrowdsSoFar (source sink delay : List ℕ) (used : ℕ) (rows seconds : List ℕ) : Type 0 where
   pub crowds : Crowds source sink delay rows seconds
-  pub size : length seconds ≡ 832
-  pub taken : (s : ℕ) → s < 64 → getD rows s 0 < 13 → getD rows s 0 < used
-  pub blank : (i : ℕ) → used * 64 ≤ i → i < 832 → getD seconds i 0 ≡ 16383
+  pub size : length seconds ≡ 1280
+  pub taken : (s : ℕ) → s < 64 → getD rows s 0 < 20 → getD rows s 0 < used
+  pub blank : (i : ℕ) → used * 64 ≤ i → i < 1280 → getD seconds i 0 ≡ 16383
 
 module _ {n : ℕ} {source sink delay table : List ℕ} (tabled : Tabled n source sink delay table) where
   source-small : (own : ℕ) → own < length source → getD source own 0 < 64
   source-small own inside = omega (arith, ends-below tabled own inside .0, tabled .few)
 
-  no-row : {rows : List ℕ} → rows ≡ replicate 64 13 → (s : ℕ) → s < 64 → getD rows s 0 ≡ 13
-  no-row no-rows s l = ap (λ (xs : List ℕ). getD xs s 0) no-rows ∙ getD-replicate {A = ℕ} 64 s 13 0 l
+  no-row : {rows : List ℕ} → rows ≡ replicate 64 20 → (s : ℕ) → s < 64 → getD rows s 0 ≡ 20
+  no-row no-rows s l = ap (λ (xs : List ℕ). getD xs s 0) no-rows ∙ getD-replicate {A = ℕ} 64 s 20 0 l
 
-  pub no-crowds : {rows seconds : List ℕ} → rows ≡ replicate 64 13 → Crowds source sink delay rows seconds
+  pub no-crowds : {rows seconds : List ℕ} → rows ≡ replicate 64 20 → Crowds source sink delay rows seconds
   no-crowds no-rows = record {
-    tasks = ap length no-rows ∙ length-replicate {A = ℕ} 64 13;
+    tasks = ap length no-rows ∙ length-replicate {A = ℕ} 64 20;
     room = λ own inside l. let is = no-row no-rows (getD source own 0) (source-small own inside) in absurd (omega arith);
     tells = λ own inside l. let is = no-row no-rows (getD source own 0) (source-small own inside) in absurd (omega arith);
   }
 
-  pub crowds-none : {rows seconds : List ℕ} → rows ≡ replicate 64 13 → seconds ≡ replicate 832 16383 → CrowdsSoFar source sink delay 0 rows seconds
+  pub crowds-none : {rows seconds : List ℕ} → rows ≡ replicate 64 20 → seconds ≡ replicate 1280 16383 → CrowdsSoFar source sink delay 0 rows seconds
   crowds-none no-rows far = record {
     crowds = no-crowds no-rows;
-    size = ap length far ∙ length-replicate {A = ℕ} 832 16383;
+    size = ap length far ∙ length-replicate {A = ℕ} 1280 16383;
     taken = λ s small l. let is = no-row no-rows s small in absurd (omega arith);
-    blank = λ i from l. ap (λ (xs : List ℕ). getD xs i 0) far ∙ getD-replicate {A = ℕ} 832 i 16383 0 l;
+    blank = λ i from l. ap (λ (xs : List ℕ). getD xs i 0) far ∙ getD-replicate {A = ℕ} 1280 i 16383 0 l;
   }
 
   -- a row for task s
@@ -64,7 +64,7 @@ module _ {n : ℕ} {source sink delay table : List ℕ} (tabled : Tabled n sourc
         blank = λ i from l. row .outside i (inr (omega arith)) ∙ done .blank i (omega arith) l;
       }
         where
-          tells : (own : ℕ) → own < length source → getD (set rows s used) (getD source own 0) 0 < 13 →
+          tells : (own : ℕ) → own < length source → getD (set rows s used) (getD source own 0) 0 < 20 →
               (getD source own 0 ≡ s) ⊎ (getD source own 0 ≡ s → ⊥) →
               Tells source sink delay own (getD after (getD (set rows s used) (getD source own 0) 0 * 64 + getD sink own 0) 0)
           tells own inside l (inl same) =
@@ -80,7 +80,7 @@ module _ {n : ℕ} {source sink delay table : List ℕ} (tabled : Tabled n sourc
               subst (λ (q : ℕ). Tells source sink delay own (getD after (q * 64 + getD sink own 0) 0)) (sym is)
               (subst (Tells source sink delay own) (sym kept) (done .crowds .tells own inside (omega arith)))
 
-          taken : (t : ℕ) → t < 64 → getD (set rows s used) t 0 < 13 → (t ≡ s) ⊎ (t ≡ s → ⊥) → getD (set rows s used) t 0 < used + 1
+          taken : (t : ℕ) → t < 64 → getD (set rows s used) t 0 < 20 → (t ≡ s) ⊎ (t ≡ s → ⊥) → getD (set rows s used) t 0 < used + 1
           taken t l row-small (inl same) =
               let is : getD (set rows s used) t 0 ≡ used = ap (λ (u : ℕ). getD (set rows s used) u 0) same ∙ own-row in omega arith
           taken t l row-small (inr other) =

@@ -238,22 +238,28 @@ module _
 
 -- ── A row ──
 
--- The edges out of task s before place j are taken into a row of least and one of second least numbers; the rest of the second list is as before.
-pub record RowSoFar (source sink delay : List ℕ) (s at j : ℕ) (before least seconds : List ℕ) : Type 0 where
+-- The edges out of task s before place j are taken into a row of least and one of second least numbers, of n tasks; the rest of the second list is as before.
+pub record RowSoFar (n : ℕ) (source sink delay : List ℕ) (s at j : ℕ) (before least seconds : List ℕ) : Type 0 where
   pub least-size : length least ≡ 64
   pub size : length seconds ≡ length before
   pub outside : (i : ℕ) → (i < at) ⊎ (at + 64 ≤ i) → getD seconds i 0 ≡ getD before i 0
+  pub low : (b : ℕ) → b < n → (getD least b 0 ≤ 16383) × (getD seconds (at + b) 0 ≤ 16383)
   pub ranked :
       (own : ℕ) → own < length source → getD source own 0 ≡ s →
       Ranked source sink delay own j (getD least (getD sink own 0) 0) (getD seconds (at + getD sink own 0) 0)
 
 module _ {n : ℕ} {source sink delay table : List ℕ} (tabled : Tabled n source sink delay table) (s at : ℕ) where
   pub row-none : {j : ℕ} {before : List ℕ} → NextOut source s 0 j → ((b : ℕ) → b < 64 → getD before (at + b) 0 ≡ 16383) →
-      RowSoFar source sink delay s at j before (replicate 64 16383) before
+      RowSoFar n source sink delay s at j before (replicate 64 16383) before
   row-none {j} {before} out far = record {
     least-size = length-replicate {A = ℕ} 64 16383;
     size = refl;
     outside = λ i out. refl;
+    low = λ b l.
+        let small : b < 64 = omega (arith, tabled .few) in
+        let first = getD-replicate {A = ℕ} 64 b 16383 0 small in
+        let second = far b small in
+        (omega arith, omega arith);
     ranked = λ own inside is.
         let most = short tabled own inside in
         let b = getD sink own 0 in
@@ -263,13 +269,17 @@ module _ {n : ℕ} {source sink delay table : List ℕ} (tabled : Tabled n sourc
         ranked-none source sink delay own (omega arith) (omega arith) (subst (λ (t : ℕ). NextOut source t 0 j) (sym is) out);
   }
 
-  pub row-more : {j next : ℕ} {before least seconds low high : List ℕ} → RowSoFar source sink delay s at j before least seconds → j < length source →
+  pub row-more : {j next : ℕ} {before least seconds low high : List ℕ} → RowSoFar n source sink delay s at j before least seconds → j < length source →
       getD source j 0 ≡ s → EdgeTaken n table (getD sink j 0) (getD delay j 0) at least seconds low high → NextOut source s (j + 1) next →
-      RowSoFar source sink delay s at next before low high
+      RowSoFar n source sink delay s at next before low high
   row-more {j} {next} done there from taken out = record {
     least-size = taken .least-size;
     size = taken .size ∙ done .size;
     outside = λ i outside. taken .outside i outside ∙ done .outside i outside;
+    low = λ b l.
+        let new = taken .each b l in
+        let old = done .low b l in
+        (omega (arith, new .2, old .0), omega (arith, new .3, old .1));
     ranked = λ own inside is.
         let new = taken .each (getD sink own 0) (ends-below tabled own inside .1) in
         let same : getD source j 0 ≡ getD source own 0 = from ∙ sym is in
@@ -279,13 +289,14 @@ module _ {n : ℕ} {source sink delay table : List ℕ} (tabled : Tabled n sourc
   }
 
   -- an edge with two ways for it that are in the row is left out
-  pub row-same : {j next : ℕ} {before least seconds : List ℕ} → RowSoFar source sink delay s at j before least seconds → j < length source →
+  pub row-same : {j next : ℕ} {before least seconds : List ℕ} → RowSoFar n source sink delay s at j before least seconds → j < length source →
       getD source j 0 ≡ s → getD seconds (at + getD sink j 0) 0 ≤ getD delay j 0 → NextOut source s (j + 1) next →
-      RowSoFar source sink delay s at next before least seconds
+      RowSoFar n source sink delay s at next before least seconds
   row-same {j} {next} done there from within out = record {
     least-size = done .least-size;
     size = done .size;
     outside = done .outside;
+    low = done .low;
     ranked = λ own inside is.
         let over = done .ranked j there from .two within in
         let for : (k : ℕ) → WayFor source sink delay own j → WayFor source sink delay j k → WayFor source sink delay own k =
@@ -295,7 +306,7 @@ module _ {n : ℕ} {source sink delay table : List ℕ} (tabled : Tabled n sourc
         (subst (λ (t : ℕ). NextOut source t (j + 1) next) (sym is) out);
   }
 
-  pub row-all : {j : ℕ} {before least seconds : List ℕ} → j ≡ length source → RowSoFar source sink delay s at j before least seconds →
+  pub row-all : {j : ℕ} {before least seconds : List ℕ} → j ≡ length source → RowSoFar n source sink delay s at j before least seconds →
       RowTaken source sink delay s at before seconds
   row-all all done = record {
     size = done .size;

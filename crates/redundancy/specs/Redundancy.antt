@@ -69,11 +69,11 @@ pub record RowTaken (source sink delay : List ℕ) (s at : ℕ) (before after : 
   pub outside : (i : ℕ) → (i < at) ⊎ (at + 64 ≤ i) → getD after i 0 ≡ getD before i 0
   pub tells : (own : ℕ) → own < length source → getD source own 0 ≡ s → Tells source sink delay own (getD after (at + getD sink own 0) 0)
 
--- For each task with one of the 13 rows, that row tells which edges out of it have another way.
+-- For each task with one of the 20 rows, that row tells which edges out of it have another way.
 pub record Crowds (source sink delay rows seconds : List ℕ) : Type 0 where
   pub tasks : length rows ≡ 64
   pub room :
-      (own : ℕ) → own < length source → getD rows (getD source own 0) 0 < 13 → getD rows (getD source own 0) 0 * 64 + getD sink own 0 < length seconds
+      (own : ℕ) → own < length source → getD rows (getD source own 0) 0 < 20 → getD rows (getD source own 0) 0 * 64 + getD sink own 0 < length seconds
   pub tells :
-      (own : ℕ) → own < length source → getD rows (getD source own 0) 0 < 13 →
+      (own : ℕ) → own < length source → getD rows (getD source own 0) 0 < 20 →
       Tells source sink delay own (getD seconds (getD rows (getD source own 0) 0 * 64 + getD sink own 0) 0)

@@ -2,7 +2,7 @@
 // edges leave one task, they are gone through once for all sinks.
 ghost use mathlib.Core.Path.{_≡_};
 ghost use mathlib.Core.Logic.{_⊎_, _≢_};
-ghost use Prim.Native.Nat.{ℕ, _+_, _*_, _≤_, _<_};
+ghost use Prim.Native.Nat.{ℕ, _+_, _*_, _≤_, _<_, max};
 ghost use lib.ListN.{length, getD, replicate};
 ghost use Rattle.model.specs.Lists.{counted};
 ghost use Rattle.model.specs.Graph.{Graph};
@@ -15,15 +15,16 @@ ghost use Rattle.redundancy.specs.Redundancy.{HeldGraph, Tabled, Chained
 use marks::Marks;
 use sweeps::greater;
 use sweeps::lesser;
+use sweeps::nearer;
 
 // No path: above every delay of an edge, and so small that the sum with one fits 16 bits.
 const FAR: u16 = 16383;
 
 // So many edges out of a task that going through them for all sinks at once takes no longer than trying each against the others.
-const MANY: u16 = 24;
+const MANY: u16 = 16;
 
 // Rows of second least delays, as many as tasks that 320 edges can crowd, and entries in each.
-const ROWS: usize = 13;
+const ROWS: usize = 20;
 
 const WIDTH: usize = 64;
 
@@ -117,6 +118,17 @@ fn has_other_way<'a, 'b>(
     false
 }
 
+// The larger of two numbers below 32,768: by a signed test, for which plain x86-64 has a vector instruction.
+fn further(a: u16, b: u16) -> u16
+    requires { ⌜ (a ≤ 32767) × (b ≤ 32767) ⌝ }
+    ensures { λ r. ⌜ r ≡ max a b ⌝ }
+{
+    if (a as i16) < (b as i16) {
+        return b;
+    }
+    a
+}
+
 // Takes an edge, which leads to task `next` with a delay, into two rows: for each task the least and the second least of the delays of ways to it, each
 // way an edge with a least delay from its sink on.
 fn take_edge<'a>(
@@ -129,7 +141,8 @@ fn take_edge<'a>(
     seconds: &'a mut [u16],
 )
     requires { ⌜ (tasks ≤ 64) × (next < tasks) × (length (now table) ≡ tasks * tasks) × (way ≤ 255) ⌝ }
-    requires { ⌜ (length (now least) ≡ 64) × (at + 64 ≤ length (now seconds)) × (length (now seconds) ≡ 832) ⌝ }
+    requires { ⌜ (length (now least) ≡ 64) × (at + 64 ≤ length (now seconds)) × (length (now seconds) ≡ 1280) ⌝ }
+    requires { ⌜ ((b : ℕ) → b < tasks → (getD (now least) b 0 ≤ 16383) × (getD (now seconds) (at + b) 0 ≤ 16383)) ⌝ }
     ensures { λ _. ⌜ EdgeTaken tasks (now (table .entry)) next way at (now (least .entry)) (now (seconds .entry)) (now (least .exit)) (now (seconds .exit)) ⌝ }
 {
     let start = next * tasks;
@@ -138,8 +151,8 @@ fn take_edge<'a>(
     let mut b = 0;
     while b < tasks {
         let sum = way + lesser(table[start + b], FAR);
-        seconds[at + b] = lesser(seconds[at + b], greater(least[b], sum));
-        least[b] = lesser(least[b], sum);
+        seconds[at + b] = nearer(seconds[at + b], further(least[b], sum));
+        least[b] = nearer(least[b], sum);
         b += 1;
     }
     seconds[at + next] = lesser(second, greater(first, way));
@@ -159,7 +172,7 @@ fn take_row<'a, 'b>(
     at: usize,
     seconds: &mut [u16],
 )
-    requires { ⌜ (s < 64) × (at + 64 ≤ length (now seconds)) × (length (now seconds) ≡ 832) × ((b : ℕ) → b < 64 → getD (now seconds) (at + b) 0 ≡ 16383) ⌝ }
+    requires { ⌜ (s < 64) × (at + 64 ≤ length (now seconds)) × (length (now seconds) ≡ 1280) × ((b : ℕ) → b < 64 → getD (now seconds) (at + b) 0 ≡ 16383) ⌝ }
     requires { ⌜ Tabled tasks (now source) (now sink) (now delay) (now table) ⌝ }
     requires { ⌜ Chained (now source) 0 (now head) (now link) ⌝ }
     ensures { λ _. ⌜ RowTaken (now (source .entry)) (now (sink .entry)) (now (delay .entry)) s at (now (seconds .entry)) (now (seconds .exit)) ⌝ }
@@ -189,7 +202,7 @@ fn take_crowds<'a, 'b, 'c>(
     rows: &'c mut [u8],
     seconds: &'c mut [u16],
 )
-    requires { ⌜ (length (now degree) ≡ 64) × (now rows ≡ replicate 64 13) × (now seconds ≡ replicate 832 16383) ⌝ }
+    requires { ⌜ (length (now degree) ≡ 64) × (now rows ≡ replicate 64 20) × (now seconds ≡ replicate 1280 16383) ⌝ }
     requires { ⌜ Tabled tasks (now source) (now sink) (now delay) (now table) ⌝ }
     requires { ⌜ Chained (now source) 0 (now head) (now link) ⌝ }
     ensures { λ _. ⌜ Crowds (now (source .entry)) (now (sink .entry)) (now (delay .entry)) (now (rows .exit)) (now (seconds .exit)) ⌝ }
@@ -421,7 +434,7 @@ pub fn redundant_marks<'a>(
     let mut link: [u16; 320] = [0; 320];
     let mut degree: [u16; 64] = [0; 64];
     chain(source, &mut head, &mut link, &mut degree);
-    let mut rows: [u8; 64] = [13; 64];
+    let mut rows: [u8; 64] = [20; 64];
     if most(&degree) < MANY {
         let none: [u16; 1] = [FAR; 1];
         return chained_marks(
@@ -436,7 +449,7 @@ pub fn redundant_marks<'a>(
             &none,
         );
     }
-    let mut seconds: [u16; 832] = [FAR; 832];
+    let mut seconds: [u16; 1280] = [FAR; 1280];
     take_crowds(
         source,
         sink,

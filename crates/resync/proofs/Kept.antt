@@ -138,7 +138,7 @@ module _ (s : List ℕ) {r : Acceptance} (is : r ≡ acceptance s) (none : r .re
     pub left-delays : length (front left zs) ≡ length (front left xs)
     left-delays = as-many-left zs left-delay ∙ sym (as-many-left xs left-source)
 
-    pub left-few : length (front left xs) ≤ 576
+    pub left-few : length (front left xs) ≤ 320
     left-few = omega (arith, as-many-left xs left-source, kept .few, inside .source, held .source-room)
 
     pub left-ends : Ends (length times) leftEdges

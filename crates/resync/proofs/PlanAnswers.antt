@@ -24,8 +24,9 @@ use Rattle.schedule.proofs.Judged.{accepted-iff-passed}
 use Rattle.stages.specs.declared.StageEdges.{StageEdges}
 use Rattle.stages.specs.Stages.{recordsOf, writtenInto, HeldStage}
 use Rattle.stages.proofs.Staged.{held-stage, front-few}
-use Rattle.plans.specs.declared.Walked.{Walked}
-use Rattle.plans.specs.Plans.{Lent, Followed}
+use Rattle.steps.specs.declared.Walked.{Walked}
+use Rattle.steps.specs.Steps.{Followed}
+use Rattle.plans.specs.Plans.{Lent}
 use Rattle.plans.proofs.Beginning.{lent-reading}
 use Rattle.resync.specs.declared.Outcome.{Outcome}
 use Rattle.resync.specs.declared.PlanAnswer.{PlanAnswer}

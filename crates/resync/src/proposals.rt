@@ -118,7 +118,6 @@ pub fn verdict(graph: &[u8], proposal: &[u8]) -> ProposalVerdict
         &proposed_source,
         &proposed_sink,
         &proposed_delay,
-        &sequence[0..numbers.tasks as usize],
     );
     weighed(judged, numbers.bound)
 }

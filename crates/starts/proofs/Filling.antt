@@ -7,7 +7,7 @@ use native.Mathlib.Nat.{le-refl, sub-zero, zero-mul, suc-mul, mul-comm, mul-le-m
 use native.Mathlib.Omega.{arith}
 use lib.ListN.{length, getD, take, drop, getD-replicate, List·getD-append}
 use lib.Seq.{length-take-le, getD-take, getD-drop, ext-getD, take-at, drop-at}
-use borrow.Rule.Slice.PartMut.{midOf, postOf, putMid, mid-len, same-len-mid, drop-put}
+use borrow.Rule.Slice.PartMut.{midOf, postOf, putMid, post-is, mid-len, same-len-mid, take-put, drop-put}
 use Rattle.model.specs.Lists.{tabulate}
 use Rattle.model.specs.Tasks.{Edge}
 use Rattle.model.specs.Runs.{ends, estimates}
@@ -16,8 +16,8 @@ use Rattle.records.specs.Columns.{zeros, rows, at}
 use Rattle.records.proofs.Fill.{length-tabulate, getD-tabulate}
 use Rattle.records.proofs.Parts.{zeros-length, each-is}
 use Rattle.records.proofs.Rows.{rows-length, rows-at, rows-more}
-use Rattle.starts.specs.Starts.{turnRow, turnRows, EndedBefore}
-use Rattle.starts.proofs.Turns.{row-length, row-at}
+use Rattle.starts.specs.Starts.{turnRow, turnRows}
+use Rattle.starts.proofs.Turns.{EndedBefore, row-length, row-at}
 
 -- the ends of n tasks in turn k of the earliest run at the estimated times
 unfoldable pub endRow : ℕ → List Edge → (ℕ → ℕ) → ℕ → List ℕ
@@ -52,6 +52,18 @@ mid-put a w xs ys within long =
     let count : a + w - a ≡ w = omega arith in
     ap (λ (zs : List ℕ). take (a + w - a) zs) (drop-at (take a xs) (ys ++ postOf a (a + w - a) xs) a (length-take-le a xs within)) ∙
     take-at ys (postOf a (a + w - a) xs) (a + w - a) (long ∙ sym count)
+
+-- a part that comes back twice is what came back last
+pub put-twice :
+    (a w : ℕ) (xs ys zs : List ℕ) → a + w ≤ length xs → length ys ≡ w →
+    putMid a (a + w - a) (putMid a (a + w - a) xs ys) zs ≡ putMid a (a + w - a) xs zs
+put-twice a w xs ys zs room long =
+    let count : a + w - a ≡ w = omega arith in
+    let behind : postOf a (a + w - a) (putMid a (a + w - a) xs ys) ≡ postOf a (a + w - a) xs =
+    post-is a (a + w) (putMid a (a + w - a) xs ys) (omega arith) ∙
+    (drop-put a (a + w) xs ys (omega arith) room (long ∙ sym count) ∙ sym (post-is a (a + w) xs (omega arith))) in
+    ap (λ (us : List ℕ). us ++ (zs ++ postOf a (a + w - a) (putMid a (a + w - a) xs ys))) (take-put a (a + w - a) xs ys (omega arith)) ∙
+    ap (λ (us : List ℕ). take a xs ++ (zs ++ us)) behind
 
 -- the turns before one stand in front of what the lists held
 pub record Turned
@@ -159,14 +171,11 @@ module _
         take-at (rows (turn - 1) (λ k. endRow n es time (suc k))) (drop place blank) place
         (rows-length n (λ k. endRow n es time (suc k)) (λ k. end-length n es time (suc k)) (turn - 1) ∙ sym (so-far .placed)))
 
-    rows-ended : (k : ℕ) → k ≤ turn → EndedBefore n es time k (rows (turn - 1) (λ j. endRow n es time (suc j)))
+    rows-ended : EndedBefore n es time turn (rows (turn - 1) (λ j. endRow n es time (suc j)))
     unfolding endRow
-    rows-ended k before =
+    rows-ended =
         record {
-          room =
-              let fewer : k - 1 ≤ turn - 1 = omega arith in
-              subst (λ (m : ℕ). (k - 1) * n ≤ m)
-              (sym (rows-length n (λ j. endRow n es time (suc j)) (λ j. end-length n es time (suc j)) (turn - 1))) (mul-le-mul fewer (le-refl n));
+          long = rows-length n (λ j. endRow n es time (suc j)) (λ j. end-length n es time (suc j)) (turn - 1);
           same = λ v j l h h′.
               let whole : suc (j - 1) ≡ j = omega arith in
               rows-at n (λ i. endRow n es time (suc i)) (λ i. end-length n es time (suc i)) (turn - 1) (j - 1) v (omega arith) l ∙
@@ -174,11 +183,9 @@ module _
               ap (λ (i : ℕ). ends (earliest n es (estimates time)) (estimates time) v i) whole);
         }
 
-    -- the part of the ends before the turn's own row, told by the width of that row
-    pub ended-before : {m k : ℕ} → n ≡ m → k ≤ turn → EndedBefore m es time k (take (place - 0) end)
-    ended-before {k = k} same before =
-        subst (λ (m : ℕ). EndedBefore m es time k (take (place - 0) end)) same
-        (subst (λ (xs : List ℕ). EndedBefore n es time k xs) (sym front-is) (rows-ended k before))
+    -- the part of the ends before the turn's own row
+    pub ended-before : EndedBefore n es time turn (take (place - 0) end)
+    ended-before = subst (λ (xs : List ℕ). EndedBefore n es time turn xs) (sym front-is) rows-ended
 
     pub turned-more :
         {row made : List ℕ} → turn ≤ turns → place + n ≤ length starts → place + n ≤ length end → row ≡ turnRow n es time turn →

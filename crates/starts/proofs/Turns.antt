@@ -3,7 +3,7 @@
 use mathlib.Core.Path.{_≡_, sym, ap, _∙_, subst}
 use mathlib.Core.Logic.{_⊎_, inl, inr}
 use mathlib.Core.Bool.{Bool, true, false}
-use mathlib.Core.List.{List, _++_}
+use mathlib.Core.List.{List, [], _++_}
 use Prim.Native.Nat.{ℕ, _+_, _-_, _*_, _≤_, _<_}
 use native.Mathlib.Nat.{le-refl, le-antisymm, eq-or-lt-of-le, zero-mul}
 use native.Mathlib.Omega.{arith}
@@ -19,11 +19,18 @@ use Rattle.records.specs.Columns.{zeros, at}
 use Rattle.records.proofs.Fill.{length-tabulate, getD-tabulate}
 use Rattle.records.proofs.Parts.{zeros-length, each-is}
 use Rattle.waits.specs.Waits.{Settles, Awaits}
-use Rattle.starts.specs.Starts.{turnRow, FileTimes, EndedBefore}
+use Rattle.starts.specs.Starts.{turnRow, FileTimes}
 use Rattle.starts.proofs.Limits.{turn-fits}
 use Rattle.passes.specs.Passes.{Bounded, Settled}
 use Rattle.starts.proofs.Raised.{WaitEnsured}
 use Rattle.starts.proofs.Cycles.{acyclic, turn-settles}
+
+-- A list holds the ends of the turns before one, turn by turn, in the earliest run at the estimated times.
+pub record EndedBefore (n : ℕ) (es : List Edge) (time : ℕ → ℕ) (turn : ℕ) (ended : List ℕ) : Type 0 where
+  pub long : length ended ≡ (turn - 1) * n
+  pub same :
+      (v k : ℕ) → v < n → 1 ≤ k → k < turn →
+      getD ended ((k - 1) * n + v) 0 ≡ ends (earliest n es (estimates time)) (estimates time) v k
 
 oneOf : Bool → ℕ → ℕ → ℕ
 oneOf true a b = a
@@ -200,9 +207,12 @@ row-in-front n es time k {row} is rest v l =
     List·getD-append row rest 0 v (subst (λ (m : ℕ). v < m) (sym (row-length n es time k is)) l) ∙ row-at n es time k is v l
 
 -- before the first turn none has ended
-pub none-ended : (n : ℕ) (es : List Edge) (time : ℕ → ℕ) (ended : List ℕ) → EndedBefore n es time 1 ended
-none-ended n es time ended =
-    record {
-      room = subst (λ (m : ℕ). m ≤ length ended) (sym (zero-mul n)) (omega arith);
-      same = λ v k l h h′. absurd (omega arith);
-    }
+pub none-ended : (n : ℕ) (es : List Edge) (time : ℕ → ℕ) → EndedBefore n es time 1 []
+none-ended n es time = record { long = sym (zero-mul n); same = λ v k l h h′. absurd (omega arith) }
+
+-- the first turn waits for none
+pub none-awaited : (n : ℕ) (es : List Edge) (given : ℕ → ℕ) → WaitEnsured n es [] 1 given given
+none-awaited n es given = (
+  record { above = λ v l. le-refl (given v); waits = λ e m p l. absurd (omega arith) },
+  λ f good v l. good .above v l,
+)

@@ -8,15 +8,16 @@ ghost use Rattle.model.specs.Tasks.{Ends};
 ghost use Rattle.model.specs.Compute.{zeroCycle, latency};
 ghost use Rattle.records.specs.Columns.{edgesOf, zeros, at};
 ghost use Rattle.order.specs.Order.{InOrder};
-ghost use Rattle.starts.specs.Starts.{turnRow, turnRows, FileTimes, EndedBefore, Late};
-use order::zero_order;
+ghost use Rattle.starts.specs.Starts.{turnRow, turnRows, FileTimes};
+use order::list_in_order;
 use passes::settle_along;
 use turn::first_turn;
 use waits::await_earlier;
+use waits::chain_delays;
 use waits::clear;
 use waits::ends_into;
-use waits::later_edges;
 use waits::settle;
+use waits::take_chain;
 
 // Times of up to 64 tasks.
 struct Times {
@@ -65,9 +66,9 @@ pub fn has_zero_cycle<'a>(source: &'a [u8], sink: &'a [u8], delay: &'a [u8], tas
     !settled
 }
 
-// The earliest starts of one turn, counted from 1, after the ends of the turns before it, in a row that holds 0. An order of the edges of delay 0
-// saves rounds over them; of the others only those count that let the turn wait.
-fn settle_turn<'a>(
+// The earliest starts of the first turn, whatever the row held before: no edge of delay 1 or more lets it wait. An order of the edges of delay 0 saves
+// rounds over them.
+pub fn turn_starts<'a>(
     source: &'a [u8],
     sink: &'a [u8],
     delay: &'a [u8],
@@ -75,29 +76,19 @@ fn settle_turn<'a>(
     order_sink: &'a [u8],
     count: usize,
     found: bool,
-    late_source: &'a [u8],
-    late_sink: &'a [u8],
-    late_delay: &'a [u8],
     time: &'a [u16],
-    ended: &'a [u32],
-    turn: usize,
     row: &mut [u32],
 )
     requires { ⌜ (length (now sink) ≡ length (now source)) × (length (now delay) ≡ length (now source)) ⌝ }
     requires { ⌜ (count ≤ length (now «order_source»)) × (count ≤ length (now «order_sink»)) ⌝ }
     requires { ⌜ (found ≡ true → InOrder (edgesOf (now source) (now sink) (now delay)) (now «order_source») (now «order_sink») count) ⌝ }
-    requires { ⌜ (length (now «late_sink») ≡ length (now «late_source»)) × (length (now «late_delay») ≡ length (now «late_source»)) ⌝ }
-    requires { ⌜ Late (edgesOf (now source) (now sink) (now delay)) (edgesOf (now «late_source») (now «late_sink») (now «late_delay»)) turn ⌝ }
     requires { ⌜ (length (now time) ≡ length (now row)) × (length (now row) ≤ 64) ⌝ }
-    requires { ⌜ now row ≡ zeros (length (now row)) ⌝ }
-    requires { ⌜ (1 ≤ turn) × (turn ≤ 64) ⌝ }
     requires { ⌜ Ends (length (now row)) (edgesOf (now source) (now sink) (now delay)) ⌝ }
     requires { ⌜ zeroCycle (length (now row)) (edgesOf (now source) (now sink) (now delay)) ≡ false ⌝ }
     requires { ⌜ FileTimes (now time) ⌝ }
-    requires { ⌜ EndedBefore (length (now row)) (edgesOf (now source) (now sink) (now delay)) (at (now time)) turn (now ended) ⌝ }
-    ensures { λ _. ⌜ now (row .exit) ≡ turnRow (length (now (row .entry))) (edgesOf (now (source .entry)) (now (sink .entry)) (now (delay .entry))) (at (now (time .entry))) turn ⌝ }
+    ensures { λ _. ⌜ now (row .exit) ≡ turnRow (length (now (row .entry))) (edgesOf (now (source .entry)) (now (sink .entry)) (now (delay .entry))) (at (now (time .entry))) 1 ⌝ }
 {
-    await_earlier(late_source, late_sink, late_delay, ended, turn, row);
+    clear(row);
     settle_along(
         source,
         sink,
@@ -107,55 +98,6 @@ fn settle_turn<'a>(
         count,
         found,
         time,
-        row,
-    );
-}
-
-// The same in a row that may hold anything.
-pub fn turn_starts<'a>(
-    source: &'a [u8],
-    sink: &'a [u8],
-    delay: &'a [u8],
-    order_source: &'a [u8],
-    order_sink: &'a [u8],
-    count: usize,
-    found: bool,
-    late_source: &'a [u8],
-    late_sink: &'a [u8],
-    late_delay: &'a [u8],
-    time: &'a [u16],
-    ended: &'a [u32],
-    turn: usize,
-    row: &mut [u32],
-)
-    requires { ⌜ (length (now sink) ≡ length (now source)) × (length (now delay) ≡ length (now source)) ⌝ }
-    requires { ⌜ (count ≤ length (now «order_source»)) × (count ≤ length (now «order_sink»)) ⌝ }
-    requires { ⌜ (found ≡ true → InOrder (edgesOf (now source) (now sink) (now delay)) (now «order_source») (now «order_sink») count) ⌝ }
-    requires { ⌜ (length (now «late_sink») ≡ length (now «late_source»)) × (length (now «late_delay») ≡ length (now «late_source»)) ⌝ }
-    requires { ⌜ Late (edgesOf (now source) (now sink) (now delay)) (edgesOf (now «late_source») (now «late_sink») (now «late_delay»)) turn ⌝ }
-    requires { ⌜ (length (now time) ≡ length (now row)) × (length (now row) ≤ 64) ⌝ }
-    requires { ⌜ (1 ≤ turn) × (turn ≤ 64) ⌝ }
-    requires { ⌜ Ends (length (now row)) (edgesOf (now source) (now sink) (now delay)) ⌝ }
-    requires { ⌜ zeroCycle (length (now row)) (edgesOf (now source) (now sink) (now delay)) ≡ false ⌝ }
-    requires { ⌜ FileTimes (now time) ⌝ }
-    requires { ⌜ EndedBefore (length (now row)) (edgesOf (now source) (now sink) (now delay)) (at (now time)) turn (now ended) ⌝ }
-    ensures { λ _. ⌜ now (row .exit) ≡ turnRow (length (now (row .entry))) (edgesOf (now (source .entry)) (now (sink .entry)) (now (delay .entry))) (at (now (time .entry))) turn ⌝ }
-{
-    clear(row);
-    settle_turn(
-        source,
-        sink,
-        delay,
-        order_source,
-        order_sink,
-        count,
-        found,
-        late_source,
-        late_sink,
-        late_delay,
-        time,
-        ended,
-        turn,
         row,
     );
 }
@@ -184,7 +126,6 @@ pub fn latency_along<'a>(
     let tasks = time.len();
     let starts = no_starts();
     let mut start = starts.start;
-    let none = starts.start;
     turn_starts(
         source,
         sink,
@@ -193,27 +134,24 @@ pub fn latency_along<'a>(
         order_sink,
         count,
         found,
-        &order_source[0..0],
-        &order_source[0..0],
-        &order_source[0..0],
         time,
-        &none[0..0],
-        1,
         &mut start[0..tasks],
     );
     start[output] + time[output] as u32
 }
 
-// The latency of a graph without cycle of delay 0: from its first turn, or by rounds where that is not found.
+// The latency of a graph without cycle of delay 0: from its first turn, or by rounds where that is not found. A list takes the tasks in the sequence in
+// which the first turn took them; nothing is promised of what it holds.
 pub fn latency<'a>(
     source: &'a [u8],
     sink: &'a [u8],
     delay: &'a [u8],
     time: &'a [u16],
     output: usize,
+    sequence: &mut [u8],
 ) -> u32
     requires { ⌜ (length (now sink) ≡ length (now source)) × (length (now delay) ≡ length (now source)) ⌝ }
-    requires { ⌜ (length (now time) ≤ 64) × (output < length (now time)) ⌝ }
+    requires { ⌜ (length (now time) ≤ 64) × (output < length (now time)) × (length (now sequence) ≡ 64) ⌝ }
     requires { ⌜ Ends (length (now time)) (edgesOf (now source) (now sink) (now delay)) ⌝ }
     requires { ⌜ zeroCycle (length (now time)) (edgesOf (now source) (now sink) (now delay)) ≡ false ⌝ }
     requires { ⌜ FileTimes (now time) ⌝ }
@@ -222,7 +160,6 @@ pub fn latency<'a>(
     let tasks = time.len();
     let starts = no_starts();
     let mut start = starts.start;
-    let mut sequence: [u8; 64] = [0; 64];
     let turn = first_turn(
         source,
         sink,
@@ -230,7 +167,7 @@ pub fn latency<'a>(
         time,
         output,
         &mut start[0..tasks],
-        &mut sequence,
+        sequence,
     );
     if turn.found {
         return start[output] + time[output] as u32;
@@ -250,7 +187,7 @@ fn turns_with<'a, 'b>(
     starts: &'b mut [u32],
 )
     requires { ⌜ (length (now sink) ≡ length (now source)) × (length (now delay) ≡ length (now source)) ⌝ }
-    requires { ⌜ length (now source) ≤ 576 ⌝ }
+    requires { ⌜ length (now source) ≤ 320 ⌝ }
     requires { ⌜ (length (now time) ≤ 64) × (turns ≤ 64) × (length (now time) * turns ≤ length (now starts)) × (length (now time) * turns ≤ length (now end)) ⌝ }
     requires { ⌜ Ends (length (now time)) (edgesOf (now source) (now sink) (now delay)) ⌝ }
     requires { ⌜ zeroCycle (length (now time)) (edgesOf (now source) (now sink) (now delay)) ≡ false ⌝ }
@@ -258,28 +195,37 @@ fn turns_with<'a, 'b>(
     ensures { λ _. ⌜ now (starts .exit) ≡ turnRows (length (now (time .entry))) (edgesOf (now (source .entry)) (now (sink .entry)) (now (delay .entry))) (at (now (time .entry))) turns ++ drop (length (now (time .entry)) * turns) (now (starts .entry)) ⌝ }
 {
     let tasks = time.len();
-    let order = zero_order(source, sink, delay, tasks);
-    let order_source = order.source;
-    let order_sink = order.sink;
-    let count = order.count as usize;
-    let found = order.found;
-    let mut late_source: [u8; 576] = [0; 576];
-    let mut late_sink: [u8; 576] = [0; 576];
-    let mut late_delay: [u8; 576] = [0; 576];
-    let late = later_edges(
+    let mut order_source: [u8; 576] = [0; 576];
+    let mut order_sink: [u8; 576] = [0; 576];
+    let order = list_in_order(
         source,
         sink,
         delay,
-        turns,
-        &mut late_source,
-        &mut late_sink,
-        &mut late_delay,
+        tasks,
+        &mut order_source,
+        &mut order_sink,
     );
+    let count = order.count as usize;
+    let found = order.found;
+    let none = source.len() as u16;
+    let mut head: [u16; 256] = [none; 256];
+    let mut link: [u16; 320] = [0; 320];
+    chain_delays(delay, &mut head, &mut link);
+    let mut back: [u16; 320] = [0; 320];
+    let mut late_sink: [u8; 320] = [0; 320];
     clear(&mut starts[0..tasks * turns]);
+    let mut late = 0;
     let mut at = 0;
     let mut turn = 1;
     while turn <= turns {
-        settle_turn(
+        let next = at + tasks;
+        await_earlier(
+            &back[0..late],
+            &late_sink[0..late],
+            &end[0..at],
+            &mut starts[at..next],
+        );
+        settle_along(
             source,
             sink,
             delay,
@@ -287,16 +233,23 @@ fn turns_with<'a, 'b>(
             &order_sink,
             count,
             found,
-            &late_source[0..late],
-            &late_sink[0..late],
-            &late_delay[0..late],
             time,
-            &end[0..at],
-            turn,
-            &mut starts[at..at + tasks],
+            &mut starts[at..next],
         );
-        ends_into(time, &starts[at..at + tasks], &mut end[at..at + tasks]);
-        at += tasks;
+        ends_into(time, &starts[at..next], &mut end[at..next]);
+        late = take_chain(
+            source,
+            sink,
+            delay,
+            &head,
+            &link,
+            turn,
+            tasks,
+            late,
+            &mut back,
+            &mut late_sink,
+        );
+        at = next;
         turn += 1;
     }
 }
@@ -311,7 +264,7 @@ pub fn turns_into<'a>(
     starts: &mut [u32],
 )
     requires { ⌜ (length (now sink) ≡ length (now source)) × (length (now delay) ≡ length (now source)) ⌝ }
-    requires { ⌜ length (now source) ≤ 576 ⌝ }
+    requires { ⌜ length (now source) ≤ 320 ⌝ }
     requires { ⌜ (length (now time) ≤ 64) × (turns ≤ 64) × (length (now time) * turns ≤ length (now starts)) ⌝ }
     requires { ⌜ Ends (length (now time)) (edgesOf (now source) (now sink) (now delay)) ⌝ }
     requires { ⌜ zeroCycle (length (now time)) (edgesOf (now source) (now sink) (now delay)) ≡ false ⌝ }

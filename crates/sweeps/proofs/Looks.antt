@@ -2,19 +2,24 @@
 -- and the sum of the table is smaller.
 use mathlib.Core.Path.{_≡_, refl, sym, ap, _∙_, subst}
 use mathlib.Core.Logic.{_⊎_, inl, inr}
-use mathlib.Core.Bool.{Bool, true, false, _||_, true≢false}
+use mathlib.Core.Bool.{Bool, true, false, not, _||_, _&&_, true≢false}
 use mathlib.Core.List.{List, [], _∷_}
-use Prim.Native.Nat.{ℕ, zero, suc, _+_, _-_, _*_, _≤_, _<_, max}
+use Prim.Native.Nat.{ℕ, zero, suc, _+_, _-_, _*_, _≤_, _<_}
 use native.Mathlib.Nat.{not-suc-le-zero}
 use native.Mathlib.Omega.{arith}
-use lib.ListN.{length, getD, set, length-set}
-use lib.Seq.{getD-set-same, getD-set-other, ext-getD}
+use lib.Bits.{bitOr}
+use lib.Dec.{eqb}
+use lib.ListN.{length, getD}
+use lib.Seq.{ext-getD}
+use borrow.Author.Tests.{eq-eqb, ne-eqb}
 use Rattle.model.specs.Tasks.{Edge, _∈_}
 use Rattle.model.proofs.Basics.{order}
 use Rattle.model.proofs.Tests.{decided, eqb-decides}
 use Rattle.records.specs.Columns.{heldEdge, edgesOf}
 use Rattle.records.proofs.Edges.{edge-out}
 use Rattle.delays.specs.Delays.{Fit}
+use Rattle.reach.specs.Reach.{bit, bitAt}
+use Rattle.reach.proofs.Bits.{bit-or}
 use Rattle.sweeps.specs.Sweeps.{rowAt, sum, Held, Sound, Eased, Idle, Going, Fallen, Followed, RowOver, Stored, Looked, Swept}
 use Rattle.sweeps.proofs.Over.{held-is}
 
@@ -66,9 +71,24 @@ neither false fell q = (refl, q)
 
 -- ── One look ──
 
+-- a mark taken away: it is gone, and the others stay
+module _ (a stale left : ℕ) (taken : (x : ℕ) → bit left x ≡ bit stale x && not (eqb a x)) where
+  mark-gone : bit left a ≡ false
+  mark-gone = taken a ∙ (ap (λ (b : Bool). bit stale a && not b) (eq-eqb a a refl) ∙ none (bit stale a))
+    where
+      none : (b : Bool) → b && false ≡ false
+      none true = refl
+      none false = refl
+
+  mark-stays : (x : ℕ) → (x ≡ a → ⊥) → bit stale x ≡ true → bit left x ≡ true
+  mark-stays x other on = taken x ∙ (ap (λ (b : Bool). b && not (eqb a x)) on ∙ ap not (ne-eqb a x (λ q. other (sym q))))
+
+  none-more : (x : ℕ) → bit stale x ≡ false → bit left x ≡ false
+  none-more x off = taken x ∙ ap (λ (b : Bool). b && not (eqb a x)) off
+
 module _
-    (source sink delay : List ℕ) (fit : Fit 64 (edgesOf source sink delay)) {a : ℕ} (inner : a < 64) {table after row stale : List ℕ} {changed : Bool}
-    (going : Going (edgesOf source sink delay) table stale) (over : RowOver source sink delay a (length source) table row)
+    (source sink delay : List ℕ) (fit : Fit 64 (edgesOf source sink delay)) {a : ℕ} (inner : a < 64) {table after row : List ℕ} {stale : ℕ}
+    {changed : Bool} (going : Going (edgesOf source sink delay) table stale) (over : RowOver source sink delay a (length source) table row)
     (stored : Stored row (a * 64) table after changed)
   where
     -- the row is in its place
@@ -165,16 +185,17 @@ module _
     idle-other e m from to (inr shorter) = let low = row-low (e .source) (e .sink) (fit .ends e m .1) in inr (omega arith)
 
     -- nothing changed
-    pub look-still : changed ≡ false → Looked (edgesOf source sink delay) a table stale after (set stale a 0) false
-    look-still none = record {
+    pub look-still :
+        (left : ℕ) → ((x : ℕ) → bit left x ≡ bit stale x && not (eqb a x)) → changed ≡ false
+        → Looked (edgesOf source sink delay) a table stale after left false
+    look-still left taken none = record {
       going = record {
         sound = sound-after;
-        marks = length-set stale a 0 ∙ going .marks;
         edges = λ e m. edge e m (decided (eqb-decides (e .source) a)) (going .edges e m);
       };
       fallen = record { same = λ q. whole; less = λ q. absurd (true≢false (sym q)) };
-      clear = λ q. getD-set-same stale a 0 0 (omega (arith, going .marks));
-      kept = λ q x was. kept x was (decided (eqb-decides x a));
+      clear = λ q. mark-gone a stale left taken;
+      kept = λ q. none-more a stale left taken;
     }
       where
         whole : after ≡ table
@@ -189,26 +210,20 @@ module _
                 at-row b l is = subst (λ (x : ℕ). getD after x 0 ≡ getD table x 0) is (stored .inside b l ∙ stored .still none b l)
 
         edge :
-            (e : Edge) → e ∈ edgesOf source sink delay → (e .source ≡ a) ⊎ (e .source ≡ a → ⊥) → Idle table e ⊎ (1 ≤ getD stale (e .source) 0)
-            → Idle after e ⊎ (1 ≤ getD (set stale a 0) (e .source) 0)
+            (e : Edge) → e ∈ edgesOf source sink delay → (e .source ≡ a) ⊎ (e .source ≡ a → ⊥) → Idle table e ⊎ (bit stale (e .source) ≡ true)
+            → Idle after e ⊎ (bit left (e .source) ≡ true)
         edge e m (inl own) old = inl (idle-own e m own)
         edge e m (inr other) (inl idle) = inl (subst (λ (xs : List ℕ). Idle xs e) (sym whole) idle)
-        edge e m (inr other) (inr mark) = let same = getD-set-other stale a (e .source) 0 0 other in inr (omega arith)
+        edge e m (inr other) (inr mark) = inr (mark-stays a stale left taken (e .source) other mark)
 
-        kept : (x : ℕ) → getD stale x 0 ≡ 0 → (x ≡ a) ⊎ (x ≡ a → ⊥) → getD (set stale a 0) x 0 ≡ 0
-        kept x was (inl same) = ap (λ (y : ℕ). getD (set stale a 0) y 0) same ∙ getD-set-same stale a 0 0 (omega (arith, going .marks))
-        kept x was (inr other) = getD-set-other stale a x 0 0 other ∙ was
-
-    -- the row changed, and the marks of its task's row were taken over
+    -- the row changed, and the marks of its task's word were taken over
     pub look-fell :
-        {follows marked : List ℕ} → changed ≡ true → Followed source sink (length source) follows → length marked ≡ 64
-        → ((x : ℕ) → x < 64 → getD marked x 0 ≡ max (getD (set stale a 0) x 0) (getD follows (a * 64 + x) 0))
-        → Looked (edgesOf source sink delay) a table stale after marked true
+        (left : ℕ) → ((x : ℕ) → bit left x ≡ bit stale x && not (eqb a x)) → {follows : List ℕ} → changed ≡ true → Followed source sink (length source) follows
+        → Looked (edgesOf source sink delay) a table stale after (bitOr left (getD follows a 0)) true
     unfolding heldEdge
-    look-fell {follows} {marked} some followed size each = record {
+    look-fell left taken {follows} some followed = record {
       going = record {
         sound = sound-after;
-        marks = size;
         edges = λ e m. edge e m (decided (eqb-decides (e .source) a)) (decided (eqb-decides (e .sink) a)) (going .edges e m);
       };
       fallen = record { same = λ q. absurd (true≢false q); less = λ q. smaller };
@@ -242,34 +257,35 @@ module _
 
         edge :
             (e : Edge) → e ∈ edgesOf source sink delay → (e .source ≡ a) ⊎ (e .source ≡ a → ⊥) → (e .sink ≡ a) ⊎ (e .sink ≡ a → ⊥)
-            → Idle table e ⊎ (1 ≤ getD stale (e .source) 0) → Idle after e ⊎ (1 ≤ getD marked (e .source) 0)
+            → Idle table e ⊎ (bit stale (e .source) ≡ true) → Idle after e ⊎ (bit (bitOr left (getD follows a 0)) (e .source) ≡ true)
         edge e m (inl own) to old = inl (idle-own e m own)
         edge e m (inr other) (inl into) old =
             let place = edge-out source sink delay e m in
             let j = place .0 in
             let from : getD source j 0 ≡ e .source = sym (ap (λ (x : Edge). x .source) (place .2)) in
             let to : getD sink j 0 ≡ a = sym (ap (λ (x : Edge). x .sink) (place .2)) ∙ into in
-            let mark : 1 ≤ rowAt follows a (e .source) =
-            subst (λ (x : ℕ). 1 ≤ rowAt follows a x) from (subst (λ (x : ℕ). 1 ≤ rowAt follows x (getD source j 0)) to (followed .marked j (place .1))) in
-            let is = each (e .source) (fit .ends e m .0) in
-            inr (omega arith)
+            let mark : bitAt follows a (e .source) ≡ true =
+            subst (λ (x : ℕ). bitAt follows a x ≡ true) from (subst (λ (x : ℕ). bitAt follows x (getD source j 0) ≡ true) to (followed .marked j (place .1))) in
+            inr (bit-or left (getD follows a 0) (e .source) ∙ (ap (λ (b : Bool). bit left (e .source) || b) mark ∙ always (bit left (e .source))))
+          where
+            always : (b : Bool) → b || true ≡ true
+            always true = refl
+            always false = refl
         edge e m (inr other) (inr away) (inl idle) = inl (idle-other e m other away idle)
         edge e m (inr other) (inr away) (inr mark) =
-            let same = getD-set-other stale a (e .source) 0 0 other in
-            let is = each (e .source) (fit .ends e m .0) in
-            inr (omega arith)
+            inr (bit-or left (getD follows a 0) (e .source) ∙ ap (λ (b : Bool). b || bitAt follows a (e .source)) (mark-stays a stale left taken (e .source) other mark))
 
 -- the task is not marked
-pub look-none : {es : List Edge} {a : ℕ} {table stale : List ℕ} → Going es table stale → getD stale a 0 ≡ 0 → Looked es a table stale table stale false
+pub look-none : {es : List Edge} {a : ℕ} {table : List ℕ} {stale : ℕ} → Going es table stale → bit stale a ≡ false → Looked es a table stale table stale false
 look-none {table = table} going none = record { going = going; fallen = fallen-not table; clear = λ q. none; kept = λ q x was. was }
 
 -- ── All tasks ──
 
-pub swept-none : {es : List Edge} (n : ℕ) {table stale : List ℕ} → Going es table stale → Swept es n n table table stale false
+pub swept-none : {es : List Edge} (n : ℕ) {table : List ℕ} {stale : ℕ} → Going es table stale → Swept es n n table table stale false
 swept-none n {table} going = record { going = going; fallen = fallen-not table; clear = λ q x from to. absurd (omega arith) }
 
 pub swept-more :
-    {es : List Edge} {n v w : ℕ} {first table stale after marked : List ℕ} {changed fell : Bool} → w ≡ v + 1 → Swept es n w first table stale changed
+    {es : List Edge} {n v w : ℕ} {first table after : List ℕ} {stale marked : ℕ} {changed fell : Bool} → w ≡ v + 1 → Swept es n w first table stale changed
     → Looked es v table stale after marked fell → Swept es n v first after marked (changed || fell)
 swept-more {n = n} {v} {w} {marked = marked} {changed} {fell} number swept looked = record {
   going = looked .going;
@@ -277,8 +293,8 @@ swept-more {n = n} {v} {w} {marked = marked} {changed} {fell} number swept looke
   clear = λ q x from to. let still = neither changed fell q in go (still .0) (still .1) x to (order w x) from;
 }
   where
-    go : changed ≡ false → fell ≡ false → (x : ℕ) → x < n → (w ≤ x) ⊎ (x < w) → v ≤ x → getD marked x 0 ≡ 0
+    go : changed ≡ false → fell ≡ false → (x : ℕ) → x < n → (w ≤ x) ⊎ (x < w) → v ≤ x → bit marked x ≡ false
     go same still x to (inl later) from = looked .kept still x (swept .clear same x later to)
     go same still x to (inr here) from =
         let is : v ≡ x = omega arith in
-        subst (λ (y : ℕ). getD marked y 0 ≡ 0) is (looked .clear still)
+        subst (λ (y : ℕ). bit marked y ≡ false) is (looked .clear still)

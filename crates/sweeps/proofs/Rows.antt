@@ -1,10 +1,11 @@
 -- Steps of the loops over rows and edges.
-use borrow.Author.Tests.{eqb-true, eqb-false, not-true, not-false}
+use borrow.Author.Count.{below-more}
+use borrow.Author.Tests.{eqb-true, eqb-false, eq-eqb, not-true, not-false}
 use mathlib.Core.Path.{_≡_, refl, sym, ap, _∙_, subst}
 use mathlib.Core.Logic.{_⊎_, inl, inr}
 use mathlib.Core.Bool.{Bool, true, false, not, _||_, true≢false}
 use mathlib.Core.List.{List}
-use Prim.Native.Nat.{ℕ, _+_, _*_, _≤_, _<_}
+use Prim.Native.Nat.{ℕ, _+_, _≤_, _<_}
 use native.Mathlib.Nat.{not-suc-le-zero}
 use native.Mathlib.Omega.{arith}
 use lib.Dec.{eqb}
@@ -14,7 +15,8 @@ use Rattle.model.proofs.Basics.{order}
 use Rattle.model.proofs.Tests.{decided, eqb-decides}
 use Rattle.records.specs.Nexts.{FirstOn}
 use Rattle.records.proofs.Nexts.{firsts-more}
-use Rattle.sweeps.specs.Sweeps.{rowAt, Chained, Followed}
+use Rattle.reach.specs.Reach.{bit, bitAt}
+use Rattle.sweeps.specs.Sweeps.{Chained, Followed, HasSources}
 
 -- ── Chains ──
 
@@ -61,39 +63,51 @@ chained-more {source} {v} {w} next-number below small few {first} {next} later =
 
 -- ── Followers ──
 
-pub followed-none : (source sink : List ℕ) {follows : List ℕ} → length follows ≡ 4096 → Followed source sink 0 follows
+pub followed-none : (source sink : List ℕ) {follows : List ℕ} → length follows ≡ 64 → Followed source sink 0 follows
 followed-none source sink size = record { size = size; marked = λ j l. absurd (not-suc-le-zero l) }
 
--- a mark more takes none away
-mark-kept : (xs : List ℕ) (p i : ℕ) → p < length xs → 1 ≤ getD xs i 0 → 1 ≤ getD (set xs p 1) i 0
-mark-kept xs p i inside held = go (decided (eqb-decides i p))
+pub sources-none : (source : List ℕ) (word : ℕ) → HasSources source 0 word
+sources-none source word j l = absurd (not-suc-le-zero l)
+
+-- one bit more takes none away
+more-kept : (word more s : ℕ) → ((b : ℕ) → bit more b ≡ bit word b || eqb s b) → (x : ℕ) → bit word x ≡ true → bit more x ≡ true
+more-kept word more s is x on = is x ∙ ap (λ (b : Bool). b || eqb s x) on
+
+more-there : (word more s : ℕ) → ((b : ℕ) → bit more b ≡ bit word b || eqb s b) → bit more s ≡ true
+more-there word more s is = is s ∙ (ap (λ (b : Bool). bit word s || b) (eq-eqb s s refl) ∙ or-true (bit word s))
   where
-    go : (i ≡ p) ⊎ (i ≡ p → ⊥) → 1 ≤ getD (set xs p 1) i 0
-    go (inl same) =
-        let one : getD (set xs p 1) i 0 ≡ 1 = ap (λ (j : ℕ). getD (set xs p 1) j 0) same ∙ getD-set-same xs p 1 0 inside in
-        omega arith
-    go (inr other) = let kept = getD-set-other xs p i 1 0 other in omega arith
+    or-true : (b : Bool) → b || true ≡ true
+    or-true true = refl
+    or-true false = refl
+
+pub sources-more :
+    (source : List ℕ) (j word more : ℕ) → HasSources source j word → ((b : ℕ) → bit more b ≡ bit word b || eqb (getD source j 0) b)
+    → HasSources source (j + 1) more
+sources-more source j word more held is =
+    below-more (λ k. bit more (getD source k 0) ≡ true) j (λ k l. more-kept word more (getD source j 0) is (getD source k 0) (held k l))
+    (more-there word more (getD source j 0) is)
 
 pub followed-more :
-    {source sink : List ℕ} (j : ℕ) {follows : List ℕ} → getD source j 0 < 64 → getD sink j 0 < 64 → Followed source sink j follows
-    → Followed source sink (j + 1) (set follows (getD sink j 0 * 64 + getD source j 0) 1)
-followed-more {source} {sink} j {follows} from to held = record {
-  size = length-set follows p 1 ∙ held .size;
-  marked = λ k l. go k l (order j k);
+    {source sink : List ℕ} (j : ℕ) {follows : List ℕ} (word : ℕ) → getD sink j 0 < 64 → Followed source sink j follows
+    → ((b : ℕ) → bit word b ≡ bitAt follows (getD sink j 0) b || eqb (getD source j 0) b) → Followed source sink (j + 1) (set follows (getD sink j 0) word)
+followed-more {source} {sink} j {follows} word to held is = record {
+  size = length-set follows t word ∙ held .size;
+  marked =
+      below-more (λ k. bitAt (set follows t word) (getD sink k 0) (getD source k 0) ≡ true) j
+      (λ k l. kept (getD sink k 0) (getD source k 0) (decided (eqb-decides (getD sink k 0) t)) (held .marked k l))
+      (ap (λ (w : ℕ). bit w (getD source j 0)) here ∙ more-there (getD follows t 0) word (getD source j 0) is);
 }
   where
-    p : ℕ
-    p = getD sink j 0 * 64 + getD source j 0
+    t : ℕ
+    t = getD sink j 0
 
-    inside : p < length follows
-    inside = omega (arith, held .size)
+    here : getD (set follows t word) t 0 ≡ word
+    here = getD-set-same follows t word 0 (omega (arith, held .size))
 
-    go : (k : ℕ) → k < j + 1 → (j ≤ k) ⊎ (k < j) → 1 ≤ rowAt (set follows p 1) (getD sink k 0) (getD source k 0)
-    go k l (inl last) =
-        let same : j ≡ k = omega arith in
-        let one : getD (set follows p 1) p 0 ≡ 1 = getD-set-same follows p 1 0 inside in
-        subst (λ (x : ℕ). 1 ≤ rowAt (set follows p 1) (getD sink x 0) (getD source x 0)) same (omega arith)
-    go k l (inr earlier) = mark-kept follows p (getD sink k 0 * 64 + getD source k 0) inside (held .marked k earlier)
+    kept : (v s : ℕ) → (v ≡ t) ⊎ (v ≡ t → ⊥) → bitAt follows v s ≡ true → bitAt (set follows t word) v s ≡ true
+    kept v s (inl same) on =
+        ap (λ (x : ℕ). bitAt (set follows t word) x s) same ∙ (ap (λ (w : ℕ). bit w s) here ∙ more-kept (getD follows t 0) word (getD source j 0) is s (ap (λ (x : ℕ). bitAt follows x s) (sym same) ∙ on))
+    kept v s (inr other) on = ap (λ (w : ℕ). bit w s) (getD-set-other follows t v word 0 other) ∙ on
 
 -- ── A row stored ──
 

@@ -1,27 +1,32 @@
 -- Where no mark is left no edge betters a path, so no path betters its entry: by induction on its delay, and along it.
 use mathlib.Core.Path.{_≡_, refl, sym, ap, _∙_, subst}
 use mathlib.Core.Logic.{_⊎_, inl, inr}
-use mathlib.Core.Bool.{Bool, true, false, true≢false}
+use mathlib.Core.Bool.{Bool, true, false, _&&_, true≢false}
 use mathlib.Core.List.{List, _∷_}
 use native.Mathlib.Nat.{not-suc-le-zero}
 use Prim.Native.Nat.{ℕ, zero, suc, _+_, _≤_, _<_}
 use native.Mathlib.Omega.{arith}
-use lib.ListN.{length, getD, replicate, length-replicate, getD-replicate}
-use Rattle.model.specs.Tasks.{Edge, _∈_, Ends}
+use lib.ListN.{length}
+use Rattle.model.specs.Tasks.{Edge, _∈_}
 use Rattle.model.specs.Paths.{total, Walk, stop, step, Path}
 use Rattle.model.proofs.Walks.{path-append}
+use Rattle.records.specs.Columns.{heldEdge, edgesOf}
+use Rattle.records.proofs.Edges.{edge-out}
 use Rattle.delays.specs.Delays.{Fit}
-use Rattle.sweeps.specs.Sweeps.{rowAt, sum, Lowest, Sound, Idle, Going, Fallen}
+use Rattle.reach.specs.Reach.{bit}
+use Rattle.sweeps.specs.Sweeps.{rowAt, sum, Lowest, Sound, Idle, Going, HasSources, Fallen}
 use Rattle.sweeps.proofs.Over.{fit-wide}
 
--- every task is marked at first
-pub going-start : {es : List Edge} {table stale : List ℕ} → Ends 64 es → Sound es table → stale ≡ replicate 64 1 → Going es table stale
-going-start {stale = stale} ends sound all = record {
+-- the source of every edge is marked at first
+pub going-start :
+    (source sink delay : List ℕ) {table : List ℕ} {stale : ℕ} → Sound (edgesOf source sink delay) table → HasSources source (length source) stale
+    → Going (edgesOf source sink delay) table stale
+unfolding heldEdge
+going-start source sink delay {stale = stale} sound all = record {
   sound = sound;
-  marks = ap length all ∙ length-replicate {A = ℕ} 64 1;
   edges = λ e m.
-      let one : getD stale (e .source) 0 ≡ 1 = ap (λ (xs : List ℕ). getD xs (e .source) 0) all ∙ getD-replicate {A = ℕ} 64 (e .source) 1 0 (ends e m .0) in
-      inr (omega arith);
+      let place = edge-out source sink delay e m in
+      inr (ap (λ (x : Edge). bit stale (x .source)) (place .2) ∙ all (place .0) (place .1));
 }
 
 module _ {es : List Edge} {table : List ℕ} (fit : Fit 64 es) (sound : Sound es table) (idle : (e : Edge) → e ∈ es → Idle table e) where
@@ -62,14 +67,14 @@ module _ {es : List Edge} {table : List ℕ} (fit : Fit 64 es) (sound : Sound es
   lowest a b k l = record { held = sound .held a b k l; least = λ d r. below (suc d) l r (omega arith) }
 
 pub settled :
-    {es : List Edge} {n : ℕ} {table stale : List ℕ} → n ≤ 64 → Fit n es → Going es table stale → ((x : ℕ) → x < n → getD stale x 0 ≡ 0)
+    {es : List Edge} {n : ℕ} {table : List ℕ} {stale : ℕ} → n ≤ 64 → Fit n es → Going es table stale → ((x : ℕ) → x < n → bit stale x ≡ false)
     → (a b : ℕ) → a < 64 → b < 64 → Lowest es a b (rowAt table a b)
 settled {es} {table = table} {stale} few fit going clear =
     lowest (fit-wide few fit) (going .sound) (λ e m. go e (going .edges e m) (clear (e .source) (fit .ends e m .0)))
   where
-    go : (e : Edge) → Idle table e ⊎ (1 ≤ getD stale (e .source) 0) → getD stale (e .source) 0 ≡ 0 → Idle table e
+    go : (e : Edge) → Idle table e ⊎ (bit stale (e .source) ≡ true) → bit stale (e .source) ≡ false → Idle table e
     go e (inl held) none = held
-    go e (inr mark) none = absurd (omega arith)
+    go e (inr mark) none = absurd (true≢false (sym mark ∙ none))
 
 -- the sum of the table, and one more while a sweep is to come
 abbrev pub left : List ℕ → Bool → ℕ
@@ -80,3 +85,10 @@ pub left-less : {before after : List ℕ} (flag changed : Bool) → flag ≡ tru
 left-less true true is sweep = let less = sweep .less refl in omega arith
 left-less true false is sweep = let same = ap sum (sweep .same refl) in omega arith
 left-less false changed is sweep = absurd (true≢false (sym is))
+
+-- no sweep more is to come where a test says so
+pub left-fewer : {before after : List ℕ} (flag changed test : Bool) → flag ≡ true → Fallen before after changed → left after (changed && test) < left before flag
+left-fewer flag true true is sweep = left-less flag true is sweep
+left-fewer true true false is sweep = let less = sweep .less refl in omega arith
+left-fewer false true false is sweep = absurd (true≢false (sym is))
+left-fewer flag false test is sweep = left-less flag false is sweep

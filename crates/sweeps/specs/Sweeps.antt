@@ -1,4 +1,4 @@
--- Only for contracts inside: a table of delays, in rows of 64, while its rows are lowered along edges.
+-- Only for contracts inside: a table of delays, in rows of 64, while its rows are lowered along edges. A word holds which tasks are marked.
 use mathlib.Core.Path.{_≡_}
 use mathlib.Core.Logic.{_⊎_}
 use mathlib.Core.Bool.{Bool, true, false}
@@ -9,6 +9,7 @@ use Rattle.model.specs.Tasks.{Edge, _∈_}
 use Rattle.model.specs.Paths.{Path}
 use Rattle.records.specs.Columns.{edgesOf}
 use Rattle.records.specs.Nexts.{FirstOn, FirstTasks}
+use Rattle.reach.specs.Reach.{bit, bitAt}
 
 -- entry b of row a
 abbrev pub rowAt : List ℕ → ℕ → ℕ → ℕ
@@ -44,10 +45,9 @@ abbrev pub Idle : List ℕ → Edge → Type 0
 Idle table e = Eased table e ⊎ (rowAt table (e .source) (e .sink) < e .delay)
 
 -- each edge betters no path, or its source is marked to be looked at
-pub record Going (es : List Edge) (table stale : List ℕ) : Type 0 where
+pub record Going (es : List Edge) (table : List ℕ) (stale : ℕ) : Type 0 where
   pub sound : Sound es table
-  pub marks : length stale ≡ 64
-  pub edges : (e : Edge) → e ∈ es → Idle table e ⊎ (1 ≤ getD stale (e .source) 0)
+  pub edges : (e : Edge) → e ∈ es → Idle table e ⊎ (bit stale (e .source) ≡ true)
 
 -- A table after some steps is the one before them, or has a smaller sum; the flag says which.
 pub record Fallen (before after : List ℕ) (changed : Bool) : Type 0 where
@@ -60,10 +60,14 @@ pub record Chained (source : List ℕ) (from : ℕ) (first next : List ℕ) : Ty
   pub room : length next ≡ 576
   pub links : (i : ℕ) → from ≤ i → i < length source → FirstOn source (getD source i 0) (i + 1) (getD next i 0)
 
--- the source of each of the first edges, so many, is marked in the row of its sink
+-- the source of each of the first edges, so many, is marked in the word of its sink
 pub record Followed (source sink : List ℕ) (count : ℕ) (follows : List ℕ) : Type 0 where
-  pub size : length follows ≡ 4096
-  pub marked : (j : ℕ) → j < count → 1 ≤ rowAt follows (getD sink j 0) (getD source j 0)
+  pub size : length follows ≡ 64
+  pub marked : (j : ℕ) → j < count → bitAt follows (getD sink j 0) (getD source j 0) ≡ true
+
+-- a word has the sources of the first edges, so many
+abbrev pub HasSources : List ℕ → ℕ → ℕ → Type 0
+HasSources source count word = (j : ℕ) → j < count → bit word (getD source j 0) ≡ true
 
 -- a row lowered to a way and another row after it
 pub record LoweredTo (way : ℕ) (table : List ℕ) (from : ℕ) (before after : List ℕ) : Type 0 where
@@ -92,14 +96,14 @@ pub record Stored (row : List ℕ) (at : ℕ) (before after : List ℕ) (changed
   pub other : changed ≡ true → (b : ℕ) × (b < 64) × (getD row b 0 ≡ getD before (at + b) 0 → ⊥)
 
 -- After a look at task a: if nothing changed, it is no longer marked, and no other became marked.
-pub record Looked (es : List Edge) (a : ℕ) (table stale table-after stale-after : List ℕ) (changed : Bool) : Type 0 where
+pub record Looked (es : List Edge) (a : ℕ) (table : List ℕ) (stale : ℕ) (table-after : List ℕ) (stale-after : ℕ) (changed : Bool) : Type 0 where
   pub going : Going es table-after stale-after
   pub fallen : Fallen table table-after changed
-  pub clear : changed ≡ false → getD stale-after a 0 ≡ 0
-  pub kept : changed ≡ false → (x : ℕ) → getD stale x 0 ≡ 0 → getD stale-after x 0 ≡ 0
+  pub clear : changed ≡ false → bit stale-after a ≡ false
+  pub kept : changed ≡ false → (x : ℕ) → bit stale x ≡ false → bit stale-after x ≡ false
 
 -- After a look at the tasks below n, from number v on.
-pub record Swept (es : List Edge) (n v : ℕ) (table table-after stale-after : List ℕ) (changed : Bool) : Type 0 where
+pub record Swept (es : List Edge) (n v : ℕ) (table table-after : List ℕ) (stale-after : ℕ) (changed : Bool) : Type 0 where
   pub going : Going es table-after stale-after
   pub fallen : Fallen table table-after changed
-  pub clear : changed ≡ false → (x : ℕ) → v ≤ x → x < n → getD stale-after x 0 ≡ 0
+  pub clear : changed ≡ false → (x : ℕ) → v ≤ x → x < n → bit stale-after x ≡ false

@@ -1,18 +1,27 @@
 // Least delays by lowering the rows of a table along edges: the row of an edge's source to its delay and the row of its sink. A task is
 // looked at again as long as the row of one that its edges lead to has changed; an edge that is longer than the delay between its ends by then
-// is passed over. Rows have room for 64 entries, so that one stays in registers while the edges out of its task are gone through. Tasks are looked at
-// against a sequence that the caller gives; what is proved does not depend on it.
+// is passed over. Rows have room for 64 entries, so that one stays in registers while the edges out of its task are gone through. Which tasks are to be
+// looked at stands in a word of 64 bits. They are looked at against a sequence that the caller gives; what is proved does not depend on it.
 ghost use mathlib.Core.Path.{_≡_};
-ghost use mathlib.Core.Bool.{false};
+ghost use mathlib.Core.Bool.{true, not, _&&_};
 ghost use Prim.Native.Nat.{ℕ, _+_, _≤_, _<_, min, max};
+ghost use lib.Dec.{eqb};
 ghost use lib.ListN.{length, getD, replicate};
 ghost use Rattle.records.specs.Columns.{edgesOf};
 ghost use Rattle.delays.specs.Delays.{Fit};
-ghost use Rattle.sweeps.specs.Sweeps.{rowAt, Lowest, Sound, Going, Fallen, Chained, Followed, LoweredTo, LoweredBy, RowOver, Stored, Looked, Swept};
+ghost use Rattle.reach.specs.Reach.{bit};
+ghost use Rattle.sweeps.specs.Sweeps.{rowAt, Lowest, Sound, Going, Fallen, Chained, Followed, HasSources, LoweredTo, LoweredBy, RowOver, Stored, Looked, Swept};
+use reach::with_bit;
 
 // One row of delays.
 struct Row {
     delay: [u16; 64],
+}
+
+// After a look or a sweep: the tasks that are marked, and whether a row changed.
+struct Step {
+    stale: u64,
+    changed: bool,
 }
 
 // Entries in a row.
@@ -52,16 +61,6 @@ pub fn greater(a: u16, b: u16) -> u16
     a
 }
 
-// The larger of two marks.
-fn either(a: u8, b: u8) -> u8
-    ensures { λ r. ⌜ r ≡ max a b ⌝ }
-{
-    if a < b {
-        return b;
-    }
-    a
-}
-
 // Chains the edges out of each task, from the first on.
 fn chain_edges<'a>(source: &[u8], first: &'a mut [u16], next: &'a mut [u16])
     requires { ⌜ (length (now source) ≤ 576) × (now first ≡ replicate 256 576) × (length (now next) ≡ 576) ⌝ }
@@ -76,31 +75,31 @@ fn chain_edges<'a>(source: &[u8], first: &'a mut [u16], next: &'a mut [u16])
     }
 }
 
-// Marks the source of each edge in the row of its sink.
-fn mark_followers<'a>(source: &'a [u8], sink: &'a [u8], follows: &mut [u8])
-    requires { ⌜ (length (now sink) ≡ length (now source)) × (length (now follows) ≡ 4096) ⌝ }
+// Marks the source of each edge in the word of its sink. Gives the sources of all edges.
+fn mark_followers<'a>(source: &'a [u8], sink: &'a [u8], follows: &mut [u64]) -> u64
+    requires { ⌜ (length (now sink) ≡ length (now source)) × (length (now follows) ≡ 64) ⌝ }
     requires { ⌜ ((j : ℕ) → j < length (now source) → (getD (now source) j 0 < 64) × (getD (now sink) j 0 < 64)) ⌝ }
-    ensures { λ _. ⌜ Followed (now (source .entry)) (now (sink .entry)) (length (now (source .entry))) (now (follows .exit)) ⌝ }
+    ensures followed { λ _. ⌜ Followed (now (source .entry)) (now (sink .entry)) (length (now (source .entry))) (now (follows .exit)) ⌝ }
+    ensures all { λ r. ⌜ HasSources (now (source .entry)) (length (now (source .entry))) r ⌝ }
 {
+    let mut sources: u64 = 0;
     let mut j = 0;
     while j < source.len() {
-        let at = sink[j] as usize * WIDTH + source[j] as usize;
-        follows[at] = 1;
+        let s = source[j] as usize;
+        let t = sink[j] as usize;
+        follows[t] = with_bit(follows[t], s);
+        sources = with_bit(sources, s);
         j += 1;
     }
+    sources
 }
 
-// Marks the tasks that are marked in a row.
-fn mark_row(follows: &[u8], at: usize, stale: &mut [u8])
-    requires { ⌜ (at + 64 ≤ length (now follows)) × (length (now stale) ≡ 64) ⌝ }
-    ensures size { λ _. ⌜ length (now (stale .exit)) ≡ 64 ⌝ }
-    ensures each { λ _. ⌜ ((x : ℕ) → x < 64 → getD (now (stale .exit)) x 0 ≡ max (getD (now (stale .entry)) x 0) (getD (now (follows .entry)) (at + x) 0)) ⌝ }
+// Takes a mark away.
+fn without_mark(stale: u64, a: usize) -> u64
+    requires { ⌜ (a < 64) × (bit stale a ≡ true) ⌝ }
+    ensures { λ r. ⌜ ((x : ℕ) → bit r x ≡ bit stale x && not (eqb a x)) ⌝ }
 {
-    let mut x = 0;
-    while x < WIDTH {
-        stale[x] = either(stale[x], follows[at + x]);
-        x += 1;
-    }
+    stale - (1 << a)
 }
 
 // Copies entries of a table, as many as a row has room for.
@@ -192,29 +191,37 @@ fn look_at<'a, 'b>(
     delay: &'a [u8],
     first: &'a [u16],
     next: &'a [u16],
-    follows: &'a [u8],
+    follows: &'a [u64],
     table: &'b mut [u16],
-    stale: &'b mut [u8],
-) -> bool
+    stale: u64,
+) -> Step
     requires { ⌜ (length (now sink) ≡ length (now source)) × (length (now delay) ≡ length (now source)) × (length (now source) ≤ 576) × (a < 64) ⌝ }
     requires { ⌜ Fit 64 (edgesOf (now source) (now sink) (now delay)) ⌝ }
     requires { ⌜ Chained (now source) 0 (now first) (now next) ⌝ }
     requires { ⌜ Followed (now source) (now sink) (length (now source)) (now follows) ⌝ }
-    requires { ⌜ Going (edgesOf (now source) (now sink) (now delay)) (now table) (now stale) ⌝ }
-    ensures { λ r. ⌜ Looked (edgesOf (now (source .entry)) (now (sink .entry)) (now (delay .entry))) a (now (table .entry)) (now (stale .entry)) (now (table .exit)) (now (stale .exit)) r ⌝ }
+    requires { ⌜ Going (edgesOf (now source) (now sink) (now delay)) (now table) stale ⌝ }
+    ensures { λ r. ⌜ Looked (edgesOf (now (source .entry)) (now (sink .entry)) (now (delay .entry))) a (now (table .entry)) stale (now (table .exit)) (r .stale) (r .changed) ⌝ }
 {
-    if stale[a] == 0 {
-        return false;
+    if (stale >> a) & 1 == 0 {
+        return Step {
+            stale,
+            changed: false,
+        };
     }
-    stale[a] = 0;
+    let left = without_mark(stale, a);
     let lowered = lowered_row(a, source, sink, delay, first, next, table);
     let row = lowered.delay;
     let changed = store_row(&row, a * WIDTH, table);
     if !changed {
-        return false;
+        return Step {
+            stale: left,
+            changed: false,
+        };
     }
-    mark_row(follows, a * WIDTH, stale);
-    true
+    Step {
+        stale: left | follows[a],
+        changed: true,
+    }
 }
 
 // A task's number, if it has a row.
@@ -227,7 +234,7 @@ fn with_row(task: u8) -> usize
     task as usize
 }
 
-// Looks at each task of a sequence, the last first. Tells whether a row changed.
+// Looks at each task of a sequence, the last first.
 fn sweep_along<'a, 'b>(
     sequence: &'a [u8],
     source: &'a [u8],
@@ -235,30 +242,32 @@ fn sweep_along<'a, 'b>(
     delay: &'a [u8],
     first: &'a [u16],
     next: &'a [u16],
-    follows: &'a [u8],
+    follows: &'a [u64],
     table: &'b mut [u16],
-    stale: &'b mut [u8],
-) -> bool
+    marked: u64,
+) -> Step
     requires { ⌜ (length (now sink) ≡ length (now source)) × (length (now delay) ≡ length (now source)) × (length (now source) ≤ 576) ⌝ }
     requires { ⌜ Fit 64 (edgesOf (now source) (now sink) (now delay)) ⌝ }
     requires { ⌜ Chained (now source) 0 (now first) (now next) ⌝ }
     requires { ⌜ Followed (now source) (now sink) (length (now source)) (now follows) ⌝ }
-    requires { ⌜ Going (edgesOf (now source) (now sink) (now delay)) (now table) (now stale) ⌝ }
-    ensures going { λ _. ⌜ Going (edgesOf (now (source .entry)) (now (sink .entry)) (now (delay .entry))) (now (table .exit)) (now (stale .exit)) ⌝ }
-    ensures fallen { λ r. ⌜ Fallen (now (table .entry)) (now (table .exit)) r ⌝ }
+    requires { ⌜ Going (edgesOf (now source) (now sink) (now delay)) (now table) marked ⌝ }
+    ensures going { λ r. ⌜ Going (edgesOf (now (source .entry)) (now (sink .entry)) (now (delay .entry))) (now (table .exit)) (r .stale) ⌝ }
+    ensures fallen { λ r. ⌜ Fallen (now (table .entry)) (now (table .exit)) (r .changed) ⌝ }
 {
+    let mut stale = marked;
     let mut changed = false;
     let mut k = sequence.len();
     while 0 < k {
         k -= 1;
         let v = with_row(sequence[k]);
-        let fell = look_at(v, source, sink, delay, first, next, follows, table, stale);
-        changed = changed | fell;
+        let look = look_at(v, source, sink, delay, first, next, follows, table, stale);
+        stale = look.stale;
+        changed = changed | look.changed;
     }
-    changed
+    Step { stale, changed }
 }
 
-// Looks at each task, the last first. Tells whether a row changed.
+// Looks at each task, the last first.
 fn sweep<'a, 'b>(
     tasks: usize,
     source: &'a [u8],
@@ -266,39 +275,27 @@ fn sweep<'a, 'b>(
     delay: &'a [u8],
     first: &'a [u16],
     next: &'a [u16],
-    follows: &'a [u8],
+    follows: &'a [u64],
     table: &'b mut [u16],
-    stale: &'b mut [u8],
-) -> bool
+    marked: u64,
+) -> Step
     requires { ⌜ (length (now sink) ≡ length (now source)) × (length (now delay) ≡ length (now source)) × (length (now source) ≤ 576) × (tasks ≤ 64) ⌝ }
     requires { ⌜ Fit 64 (edgesOf (now source) (now sink) (now delay)) ⌝ }
     requires { ⌜ Chained (now source) 0 (now first) (now next) ⌝ }
     requires { ⌜ Followed (now source) (now sink) (length (now source)) (now follows) ⌝ }
-    requires { ⌜ Going (edgesOf (now source) (now sink) (now delay)) (now table) (now stale) ⌝ }
-    ensures { λ r. ⌜ Swept (edgesOf (now (source .entry)) (now (sink .entry)) (now (delay .entry))) tasks 0 (now (table .entry)) (now (table .exit)) (now (stale .exit)) r ⌝ }
+    requires { ⌜ Going (edgesOf (now source) (now sink) (now delay)) (now table) marked ⌝ }
+    ensures { λ r. ⌜ Swept (edgesOf (now (source .entry)) (now (sink .entry)) (now (delay .entry))) tasks 0 (now (table .entry)) (now (table .exit)) (r .stale) (r .changed) ⌝ }
 {
+    let mut stale = marked;
     let mut changed = false;
     let mut v = tasks;
     while 0 < v {
         v -= 1;
-        let fell = look_at(v, source, sink, delay, first, next, follows, table, stale);
-        changed = changed | fell;
+        let look = look_at(v, source, sink, delay, first, next, follows, table, stale);
+        stale = look.stale;
+        changed = changed | look.changed;
     }
-    changed
-}
-
-// Whether a task is marked.
-fn any_marked(stale: &[u8]) -> bool
-    requires { ⌜ length (now stale) ≡ 64 ⌝ }
-    ensures { λ r. ⌜ (r ≡ false → (x : ℕ) → x < 64 → getD (now (stale .entry)) x 0 ≡ 0) ⌝ }
-{
-    let mut marked = false;
-    let mut x = 0;
-    while x < WIDTH {
-        marked = marked | (stale[x] != 0);
-        x += 1;
-    }
-    marked
+    Step { stale, changed }
 }
 
 // Lowers a table of path delays until every entry is the least one (16,383 where there is no path). Any sequence of tasks will do; one in which tasks
@@ -319,13 +316,12 @@ pub fn settle<'a>(
 {
     let mut first: [u16; 256] = [NO_EDGE; 256];
     let mut next: [u16; 576] = [0; 576];
-    let mut follows: [u8; 4096] = [0; 4096];
-    let mut stale: [u8; 64] = [1; 64];
+    let mut follows: [u64; 64] = [0; 64];
     chain_edges(source, &mut first, &mut next);
-    mark_followers(source, sink, &mut follows);
-    let mut changed = true;
-    while changed {
-        changed = sweep_along(
+    let mut stale = mark_followers(source, sink, &mut follows);
+    let mut going = true;
+    while going {
+        let step = sweep_along(
             sequence,
             source,
             sink,
@@ -334,13 +330,15 @@ pub fn settle<'a>(
             &next,
             &follows,
             table,
-            &mut stale,
+            stale,
         );
+        stale = step.stale;
+        going = step.changed & (stale != 0);
     }
     // Only if the sequence leaves out a task.
-    let mut again = any_marked(&stale);
+    let mut again = stale != 0;
     while again {
-        again = sweep(
+        let step = sweep(
             tasks,
             source,
             sink,
@@ -349,7 +347,9 @@ pub fn settle<'a>(
             &next,
             &follows,
             table,
-            &mut stale,
+            stale,
         );
+        stale = step.stale;
+        again = step.changed;
     }
 }

@@ -1,5 +1,4 @@
 -- The proofs that other crates may cite.
-pub mod Tasks
-pub mod Words
+pub mod Free
 pub mod Raising
 pub mod Walking

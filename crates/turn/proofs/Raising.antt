@@ -1,21 +1,19 @@
 -- The starts of a set of tasks raised one by one: what is left of the set is still to be raised, and all else stands as `Lifted` says.
 use mathlib.Core.Path.{_≡_, refl, sym, ap, _∙_, subst}
 use mathlib.Core.Logic.{_⊎_, inl, inr}
-use mathlib.Core.Bool.{Bool, true, false, not, _&&_}
+use mathlib.Core.Bool.{true, false, not, _&&_}
 use mathlib.Core.List.{List}
 use Prim.Native.Nat.{ℕ, _≤_, _<_, max}
 use native.Mathlib.Nat.{le-refl}
 use native.Mathlib.Omega.{arith}
 use lib.Dec.{eqb}
 use lib.ListN.{length, set, length-set}
-use Rattle.model.proofs.Tests.{decided, eqb-decides, decides-no}
 use Rattle.records.specs.Columns.{at}
 use Rattle.waits.proofs.Lifts.{lifted-there, lifted-elsewhere, lifted-above, lifted-below}
 use Rattle.reach.specs.Reach.{bit}
 use Rattle.reach.proofs.Bits.{bit-zero}
+use Rattle.sets.proofs.Tasks.{never, and-both, gone-before}
 use Rattle.turn.specs.Turn.{Lifted}
-use Rattle.turn.proofs.Tasks.{never, and-true}
-use Rattle.turn.proofs.Words.{and-both}
 
 pub record Raising (word end : ℕ) (given : List ℕ) (rest : ℕ) (row : List ℕ) : Type 0 where
   pub size : length row ≡ length given
@@ -41,7 +39,7 @@ pub raising-more :
 raising-more {word} {end} {given} {rest} {row} sofar t rest′ {x} inside on is left = record {
   size = length-set row t x ∙ sofar .size;
   risen = λ u. let old = sofar .risen u in let new = up u in omega arith;
-  raised = λ u here off. go u here off (decided (eqb-decides u t));
+  raised = λ u here off. go u here (gone-before rest rest′ t left u off);
   others = λ u off. lifted-elsewhere row t x inside u (λ q. never (ap (bit word) q ∙ sofar .part t on) off) ∙ sofar .others u off;
   within = λ u b low high.
       let old = sofar .within u b low high in
@@ -53,13 +51,11 @@ raising-more {word} {end} {given} {rest} {row} sofar t rest′ {x} inside on is 
     up : (u : ℕ) → at row u ≤ at (set row t x) u
     up = lifted-above row t x inside (omega arith)
 
-    go : (u : ℕ) → bit word u ≡ true → bit rest′ u ≡ false → (u ≡ t) ⊎ (u ≡ t → ⊥) → end ≤ at (set row t x) u
-    go u here off (inl same) =
+    go : (u : ℕ) → bit word u ≡ true → (u ≡ t) ⊎ (bit rest u ≡ false) → end ≤ at (set row t x) u
+    go u here (inl same) =
         let there = lifted-there row t x inside in
         subst (λ (v : ℕ). end ≤ at (set row t x) v) (sym same) (omega arith)
-    go u here off (inr other) =
-        let gone : bit rest u ≡ false =
-        sym (and-true (bit rest u)) ∙ (ap (λ (b : Bool). bit rest u && not b) (sym (decides-no (eqb-decides t u) (λ q. other (sym q)))) ∙ (sym (left u) ∙ off)) in
+    go u here (inr gone) =
         let old = sofar .raised u here gone in
         let new = up u in
         omega arith

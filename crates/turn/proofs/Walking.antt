@@ -5,29 +5,18 @@ use mathlib.Core.Bool.{Bool, true, false, _&&_, _||_}
 use mathlib.Core.List.{List}
 use Prim.Native.Nat.{ℕ, _+_, _*_, _≤_, _<_}
 use native.Mathlib.Omega.{arith}
-use lib.Bits.{bitAnd}
 use lib.Dec.{eqb}
 use lib.ListN.{length, getD}
+use borrow.Author.Tests.{eqb-true, eq-eqb}
 use Rattle.model.specs.Tasks.{Edge, _∈_, Ends}
 use Rattle.records.specs.Columns.{at, edgesOf}
 use Rattle.waits.specs.Waits.{Settles}
 use Rattle.reach.specs.Reach.{bit, bitAt}
 use Rattle.reach.proofs.Bits.{bit-zero}
-use Rattle.turn.specs.Turn.{ZeroWords, Lifted, Walked, Turned}
-use Rattle.turn.proofs.Tasks.{true-or-false, never, bit-and}
-use Rattle.turn.proofs.Words.{or-left, or-right, or-cases, and-both, and-made, same-task, same-tasks, edge-bit, bit-edge}
-
--- words without a bit in common
-pub apart-bits : (x y : ℕ) → bitAnd x y ≡ 0 → (b : ℕ) → bit x b ≡ true → bit y b ≡ false
-apart-bits x y none b on = go (true-or-false (bit y b))
-  where
-    go : (bit y b ≡ true) ⊎ (bit y b ≡ false) → bit y b ≡ false
-    go (inr off) = off
-    go (inl too) = absurd (never (bit-and x y b ∙ and-made _ _ on too) (ap (λ (w : ℕ). bit w b) none ∙ bit-zero b))
-
--- a word has the bits that it shares with another, if these are all of the other's
-pub all-bits : (x y : ℕ) → bitAnd x y ≡ y → (b : ℕ) → bit y b ≡ true → bit x b ≡ true
-all-bits x y same b on = and-both _ _ (sym (bit-and x y b) ∙ (ap (λ (w : ℕ). bit w b) same ∙ on)) .0
+use Rattle.sets.specs.Sets.{ZeroWords}
+use Rattle.sets.proofs.Tasks.{true-or-false, never, or-left, or-right, or-cases, and-both, and-made}
+use Rattle.sets.proofs.Words.{edge-bit, bit-edge}
+use Rattle.turn.specs.Turn.{Lifted, Walked, Turned}
 
 pub walked-none :
     (sinks time : List ℕ) (n input reached : ℕ) (row : List ℕ) → length row ≡ n → ((v : ℕ) → v < n → at row v ≡ 0)
@@ -37,14 +26,14 @@ walked-none sinks time n input reached row size blank marks = record {
   low = λ v l. let none = blank v l in omega arith;
   kept = λ s t l on gone. absurd (never gone (bit-zero s));
   lowest = λ f good v l. let none = blank v l in omega arith;
-  first = marks input ∙ or-right (bit 0 input) (eqb input input) (same-tasks {a = input} refl);
+  first = marks input ∙ or-right (bit 0 input) (eqb input input) (eq-eqb input input refl);
   on = λ s t l on gone here. absurd (never gone (bit-zero s));
   by = λ held start step v here. go held start v (or-cases _ _ (sym (marks v) ∙ here));
 }
   where
     go : (held : ℕ → Bool) → held input ≡ true → (v : ℕ) → (bit 0 v ≡ true) ⊎ (eqb input v ≡ true) → held v ≡ true
     go held start v (inl on) = absurd (never on (bit-zero v))
-    go held start v (inr same) = ap held (sym (same-task _ _ same)) ∙ start
+    go held start v (inr same) = ap held (sym (eqb-true _ _ same)) ∙ start
 
 module _
     {sinks time : List ℕ} {n input taken done reached : ℕ} {row : List ℕ} (sofar : Walked sinks time n input taken done reached row)
@@ -74,7 +63,7 @@ module _
             let stay = same in
             omega arith
         go (inr now) =
-            let is : v ≡ s = same-task _ _ now in
+            let is : v ≡ s = eqb-true _ _ now in
             let end = lifted .raised t (ap (λ (u : ℕ). bitAt sinks u t) is ∙ on) in
             let here : at row v + at time v ≡ at row s + at time s = ap (λ (u : ℕ). at row u + at time u) is in
             let stay = same in
@@ -94,7 +83,7 @@ module _
         go : (bit done s ≡ true) ⊎ (eqb v s ≡ true) → bit reached′ t ≡ true
         go (inl before) = marks t ∙ or-left (bit reached t) (bit reached v && bitAt sinks v t) (sofar .on s t l on before marked)
         go (inr now) =
-            let is : v ≡ s = same-task _ _ now in
+            let is : v ≡ s = eqb-true _ _ now in
             marks t ∙ or-right (bit reached t) (bit reached v && bitAt sinks v t) (and-made (bit reached v) (bitAt sinks v t) (ap (bit reached) is ∙ marked) (ap (λ (u : ℕ). bitAt sinks u t) is ∙ on))
 
     pub walked-more : Walked sinks time n input (taken + 1) done′ reached′ row′

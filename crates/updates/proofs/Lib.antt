@@ -2,3 +2,4 @@
 pub mod Lines
 pub mod Falls
 pub mod Pairs
+pub mod Olds

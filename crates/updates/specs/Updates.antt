@@ -15,6 +15,12 @@ Small xs = (i : ℕ) → at xs i ≤ 16383
 pub record Fronts (count : ℕ) (xs ys : List ℕ) : Type 0 where
   pub same : (i : ℕ) → i < count → at ys i ≡ at xs i
 
+-- the first `many` numbers from a start on are those of another list; the other numbers are as before
+pub record RowCopied (start many : ℕ) (from before after : List ℕ) : Type 0 where
+  pub size : length after ≡ length before
+  pub inside : (i : ℕ) → i < many → at after (start + i) ≡ at from (start + i)
+  pub outside : (i : ℕ) → (i < start) ⊎ (start + many ≤ i) → at after i ≡ at before i
+
 -- the first `many` numbers from a start on are entries of a table that stand a step apart, cut at 16,383; the other numbers are as before
 pub record LineSpread (table : List ℕ) (first step start many : ℕ) (before after : List ℕ) : Type 0 where
   pub size : length after ≡ length before

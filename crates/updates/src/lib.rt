@@ -7,8 +7,8 @@ ghost use Rattle.model.specs.Lists.{keep};
 ghost use Rattle.model.specs.Tasks.{Ends};
 ghost use Rattle.model.specs.Plan.{withPair};
 ghost use Rattle.records.specs.Columns.{at, edgesOf};
-ghost use Rattle.counts.specs.Counts.{subsumesBy, CountsOf};
-ghost use Rattle.updates.specs.Updates.{Spread, LineSpread, RowFell, RowsJoined, PairAdded, Small, Fronts};
+ghost use Rattle.counts.specs.Counts.{subsumesBy, CountsOf, RowsFell};
+ghost use Rattle.updates.specs.Updates.{Spread, LineSpread, RowFell, RowsJoined, RowCopied, PairAdded, Small, Fronts};
 use counts::shift_edges;
 use sweeps::lesser;
 use sweeps::nearer;
@@ -110,7 +110,7 @@ pub fn join_rows(ways: &[u16], onward: &[u16], tasks: usize, rows: &mut [u16], f
 }
 
 // Copies the first numbers of a list to the front of another.
-fn copy(from: &[u16], count: usize, to: &mut [u16])
+pub fn copy(from: &[u16], count: usize, to: &mut [u16])
     requires { ⌜ (count ≤ length (now from)) × (count ≤ length (now to)) × (count ≤ 4096) ⌝ }
     ensures { λ _. ⌜ Fronts count (now (from .entry)) (now (to .exit)) ⌝ }
 {
@@ -121,8 +121,35 @@ fn copy(from: &[u16], count: usize, to: &mut [u16])
     }
 }
 
+// Copies a row of 64 numbers to the same place of another list.
+fn copy_row(from: &[u16], start: usize, to: &mut [u16])
+    requires { ⌜ (start + 64 ≤ length (now from)) × (start + 64 ≤ length (now to)) × (start ≤ 4096) ⌝ }
+    ensures { λ _. ⌜ RowCopied start 64 (now (from .entry)) (now (to .entry)) (now (to .exit)) ⌝ }
+{
+    let mut i = 0;
+    while i < WIDTH {
+        to[start + i] = from[start + i];
+        i += 1;
+    }
+}
+
+// Brings rows as they were up to what they are, after they fell: only rows with an entry that fell are copied.
+fn copy_fallen(rows: &[u16], fell: &[u16], tasks: usize, old: &mut [u16])
+    requires { ⌜ (tasks ≤ 64) × (tasks * 64 ≤ length (now rows)) × (tasks * 64 ≤ length (now old)) × (length (now fell) ≡ 64) ⌝ }
+    requires { ⌜ Small (now rows) × RowsFell tasks (now old) (now rows) (now fell) ⌝ }
+    ensures { λ _. ⌜ Fronts (tasks * 64) (now (rows .entry)) (now (old .exit)) ⌝ }
+{
+    let mut x = 0;
+    while x < tasks {
+        if fell[x] != NONE {
+            copy_row(rows, x * WIDTH, old);
+        }
+        x += 1;
+    }
+}
+
 // Adds the pair (a, b) to delays and counts of a stage: delays fall to the way to a and the way from b on, what the pair subsumes is dropped, and its
-// own edge is counted last. `old_from` and `old_to` take the delays as they were.
+// own edge is counted last. `old_from` and `old_to` hold the delays as they were, and follow them at the end, so that they serve the next pair.
 pub fn add_pair<'a, 'b>(
     source: &'a [u8],
     sink: &'a [u8],
@@ -140,12 +167,12 @@ pub fn add_pair<'a, 'b>(
     requires { ⌜ (tasks * 64 ≤ length (now from)) × (tasks * 64 ≤ length (now to)) × Small (now from) × Small (now to) ⌝ }
     requires { ⌜ (tasks ≤ 64) × (a < tasks) × (b < tasks) × Ends tasks (edgesOf (now source) (now sink) (now delay)) ⌝ }
     requires { ⌜ (tasks * 64 ≤ length (now «old_from»)) × (tasks * 64 ≤ length (now «old_to»)) ⌝ }
+    requires { ⌜ Fronts (tasks * 64) (now from) (now «old_from») × Fronts (tasks * 64) (now to) (now «old_to») ⌝ }
     requires { ⌜ CountsOf tasks (now from) (now to) (edgesOf (now source) (now sink) (now delay)) (now counts) ⌝ }
     ensures delays { λ _. ⌜ PairAdded tasks a b (now (from .entry)) (now (to .entry)) (now (from .exit)) (now (to .exit)) ⌝ }
     ensures counts { λ _. ⌜ CountsOf tasks (now (from .exit)) (now (to .exit)) (withPair (keep (λ e. not (subsumesBy (now (from .entry)) (now (to .entry)) a b e)) (edgesOf (now (source .entry)) (now (sink .entry)) (now (delay .entry)))) a b) (now (counts .exit)) ⌝ }
+    ensures olds { λ _. ⌜ Fronts (tasks * 64) (now (from .exit)) (now («old_from» .exit)) × Fronts (tasks * 64) (now (to .exit)) (now («old_to» .exit)) ⌝ }
 {
-    copy(from, tasks * WIDTH, old_from);
-    copy(to, tasks * WIDTH, old_to);
     let mut fell_from = [0; 64];
     let mut fell_to = [0; 64];
     let start_to = a * WIDTH;
@@ -181,4 +208,6 @@ pub fn add_pair<'a, 'b>(
         b,
         counts,
     );
+    copy_fallen(from, &fell_from, tasks, old_from);
+    copy_fallen(to, &fell_to, tasks, old_to);
 }

@@ -1,13 +1,13 @@
 -- What delays between tasks say of an order. By a table of least delays it is held where the entry is at most the delay, which is at most 255, so that
 -- 65,535, no path, holds none; by a square of single edges' delays it is held where the entry is at most the delay, since an edge is a path. By a least delay
 -- alone it is held exactly then, 16,383 standing for no path.
-use mathlib.Core.Path.{_≡_, refl, sym, ap, _∙_}
+use mathlib.Core.Path.{_≡_, refl, sym, ap, _∙_, subst}
 use mathlib.Core.Logic.{_⊎_, inl, inr}
 use mathlib.Core.Bool.{Bool, true, false, not}
 use mathlib.Core.List.{List}
 use mathlib.Core.Option.{Option, none, some}
-use Prim.Native.Nat.{ℕ, suc, _+_, _-_, _*_, _≤_, _<_}
-use native.Mathlib.Nat.{sub-zero, le-refl}
+use Prim.Native.Nat.{ℕ, suc, _+_, _-_, _*_, _≤_, _<_, min}
+use native.Mathlib.Nat.{not-suc-le-zero, sub-zero, le-refl}
 use native.Mathlib.Omega.{arith}
 use lib.ListN.{length, getD, take, set, replicate, length-set, length-replicate, getD-replicate}
 use lib.Seq.{length-take-le, getD-take, getD-set-same, getD-set-other}
@@ -17,19 +17,22 @@ use Rattle.model.specs.Tasks.{Edge, _∈_, Ends}
 use Rattle.model.specs.Compute.{leastDelay, atMost, orderHolds}
 use Rattle.model.proofs.Basics.{order}
 use Rattle.model.proofs.Walks.{path-edge, path-ends}
-use Rattle.model.proofs.Tests.{decides-yes, decides-no, held-path, path-held}
+use Rattle.model.proofs.Tests.{decided, eqb-decides, decides-yes, decides-no, held-path, path-held}
 use Rattle.model.proofs.Theorems.{order-holds-is}
 use Rattle.files.specs.declared.Refusal.{Refusal}
 use Rattle.files.specs.Refusals.{refuse, notRefused}
 use Rattle.files.proofs.First.{refused, not-refused, stops-at, stops-nowhere, number-same}
 use Rattle.records.specs.Columns.{heldEdge, edgesOf}
-use Rattle.records.proofs.Edges.{edge-in}
+use Rattle.records.proofs.Edges.{edge-in, edge-out}
 use Rattle.records.proofs.Rows.{place-within, product-small}
 use Rattle.delays.specs.Delays.{entry, delayTable, Fit, edge}
 use Rattle.delays.proofs.Table.{table-at}
 use Rattle.sweeps.specs.Sweeps.{Lowest}
+use Rattle.sweeps.proofs.Over.{fit-at}
+use Rattle.ways.specs.Ways.{stepAt, StepsOf}
+use Rattle.ways.proofs.Ways.{set-low}
 use Rattle.schedule.proofs.Fronts.{front}
-use Rattle.verdicts.specs.Tables.{Among, Stepped, FirstAbove, all-within, above, NoneAbove, between, lostFrom}
+use Rattle.verdicts.specs.Tables.{Among, FirstAbove, all-within, above, NoneAbove, between, lostFrom}
 
 -- a list is the table of least delays of rs, between n tasks
 pub record TableOf (n : ℕ) (rs : List Edge) (table : List ℕ) : Type 0 where
@@ -98,58 +101,116 @@ edge-place {n} source sink delay j few fit below =
     let ends = fit .ends (heldEdge source sink delay j) (edge-in source sink delay j below) in
     (place-within n n (getD source j 0) (getD sink j 0) (ends .0) (ends .1), product-small n n few few)
 
--- the square before any edge
-pub no-steps : (n size : ℕ) (rs : List Edge) {square : List ℕ} → square ≡ replicate size 65535 → Stepped n size rs square
-no-steps n size rs {square} blank = record {
-  room = ap length blank ∙ length-replicate {A = ℕ} size 65535;
-  steps = λ i inside small.
-      let far : getD square i 0 ≡ 65535 = ap (λ (xs : List ℕ). getD xs i 0) blank ∙ getD-replicate {A = ℕ} size i 65535 0 inside in
-      absurd (omega arith);
-}
+-- The first edges of three lists, so many, are taken into a square: an entry below 16,383 is the delay of an edge with these ends, and none of the edges
+-- taken has less than the entry of its ends.
+pub record Taken (n room : ℕ) (source sink delay : List ℕ) (count : ℕ) (square : List ℕ) : Type 0 where
+  pub size : length square ≡ room
+  pub held :
+      (a b : ℕ) → a < n → b < n → stepAt n square a b < 16383
+      → (e : Edge) × e ∈ edgesOf source sink delay × (e .source ≡ a) × (e .sink ≡ b) × (e .delay ≡ stepAt n square a b)
+  pub least : (j : ℕ) → j < count → stepAt n square (getD source j 0) (getD sink j 0) ≤ getD delay j 0
 
--- an entry lowered to the delay of an edge with these ends, or left
-pub step-taken :
-    {n size : ℕ} {rs : List Edge} {square square′ : List ℕ} (at delay : ℕ) → Stepped n size rs square → square′ ≡ set square at delay → at < size
-    → (delay ≡ getD square at 0) ⊎ ((e : Edge) × e ∈ rs × (e .source * n + e .sink ≡ at) × (e .delay ≤ delay)) → Stepped n size rs square′
-step-taken {n} {size} {rs} {square} {square′} at delay held is inside which = record {
-  room = ap length is ∙ (length-set square at delay ∙ held .room);
-  steps = λ i below small. go i below small (order i at) (order at i);
-}
-  where
-    other : (i : ℕ) → i < size → getD square′ i 0 ≤ 255 → (i ≡ at → ⊥)
-        → (e : Edge) × e ∈ rs × (e .source * n + e .sink ≡ i) × (e .delay ≤ getD square′ i 0)
-    other i below small apart =
-        let same : getD square′ i 0 ≡ getD square i 0 = ap (λ (xs : List ℕ). getD xs i 0) is ∙ getD-set-other square at i delay 0 apart in
-        let old = held .steps i below (omega arith) in
-        (old .0, old .1, old .2, omega (arith, same, old .3))
+module _ {n room : ℕ} (source sink delay : List ℕ) (fits : n * n ≤ room) where
+  pub none-taken : {square : List ℕ} → square ≡ replicate room 65535 → Taken n room source sink delay 0 square
+  none-taken {square} blank = record {
+    size = ap length blank ∙ length-replicate {A = ℕ} room 65535;
+    held = λ a b k l short.
+        let inside : a * n + b < room = omega (arith, place-within n n a b k l) in
+        let far : getD square (a * n + b) 0 ≡ 65535 = ap (λ (xs : List ℕ). getD xs (a * n + b) 0) blank ∙ getD-replicate {A = ℕ} room (a * n + b) 65535 0 inside in
+        absurd (omega arith);
+    least = λ j l. absurd (not-suc-le-zero l);
+  }
 
-    here : (i : ℕ) → i ≡ at → getD square′ i 0 ≤ 255
-        → (delay ≡ getD square at 0) ⊎ ((e : Edge) × e ∈ rs × (e .source * n + e .sink ≡ at) × (e .delay ≤ delay))
-        → (e : Edge) × e ∈ rs × (e .source * n + e .sink ≡ i) × (e .delay ≤ getD square′ i 0)
-    here i q small which =
-        let room : length square ≡ size = held .room in
-        let stored : getD square′ i 0 ≡ delay =
-        ap (λ (xs : List ℕ). getD xs i 0) is ∙ (ap (λ (k : ℕ). getD (set square at delay) k 0) q ∙ getD-set-same square at delay 0 (omega arith)) in
-        pick stored which
-      where
-        pick : getD square′ i 0 ≡ delay → (delay ≡ getD square at 0) ⊎ ((e : Edge) × e ∈ rs × (e .source * n + e .sink ≡ at) × (e .delay ≤ delay))
-            → (e : Edge) × e ∈ rs × (e .source * n + e .sink ≡ i) × (e .delay ≤ getD square′ i 0)
-        pick stored (inl left) =
-            let old = held .steps at inside (omega arith) in
-            (old .0, old .1, old .2 ∙ sym q, omega (arith, stored, left, old .3))
-        pick stored (inr new) = (new .0, new .1, new .2 ∙ sym q, omega (arith, stored, new .3))
+  -- the entry of one edge's ends more lowered to its delay
+  pub one-taken :
+      {j v : ℕ} {square : List ℕ} → Fit n (edgesOf source sink delay) → j < length source → Taken n room source sink delay j square
+      → v ≡ min (getD square (getD source j 0 * n + getD sink j 0) 0) (getD delay j 0)
+      → Taken n room source sink delay (j + 1) (set square (getD source j 0 * n + getD sink j 0) v)
+  unfolding heldEdge
+  one-taken {j} {v} {square} fit below taken value = record {
+    size = length-set square place v ∙ taken .size;
+    held = λ a b k l short. go a b k l short (decided (eqb-decides (a * n + b) place));
+    least = λ i l. low i l (order j i);
+  }
+    where
+      place : ℕ
+      place = getD source j 0 * n + getD sink j 0
 
-    go : (i : ℕ) → i < size → getD square′ i 0 ≤ 255 → (i ≤ at) ⊎ (at < i) → (at ≤ i) ⊎ (i < at)
-        → (e : Edge) × e ∈ rs × (e .source * n + e .sink ≡ i) × (e .delay ≤ getD square′ i 0)
-    go i below small (inl h) (inl h′) = here i (omega arith) small which
-    go i below small (inr h) after = other i below small (λ q. omega arith)
-    go i below small (inl h) (inr h′) = other i below small (λ q. omega arith)
+      ends : (getD source j 0 < n) × (getD sink j 0 < n) × (getD delay j 0 ≤ 255)
+      ends = fit-at source sink delay j fit below
+
+      inside : place < length square
+      inside = omega (arith, place-within n n (getD source j 0) (getD sink j 0) (ends .0) (ends .1), fits, taken .size)
+
+      here : getD (set square place v) place 0 ≡ v
+      here = getD-set-same square place v 0 inside
+
+      -- the entry is as it was, or it is the edge's delay
+      own :
+          v < 16383 → (getD square place 0 ≤ getD delay j 0) ⊎ (getD delay j 0 < getD square place 0)
+          → (e : Edge) × e ∈ edgesOf source sink delay × (e .source ≡ getD source j 0) × (e .sink ≡ getD sink j 0) × (e .delay ≡ v)
+      own short (inl kept) =
+          let old = taken .held (getD source j 0) (getD sink j 0) (ends .0) (ends .1) (omega arith) in
+          (old .0, old .1, old .2, old .3, omega (arith, old .4))
+      own short (inr less) = (heldEdge source sink delay j, edge-in source sink delay j below, refl, refl, omega arith)
+
+      entry : (a b : ℕ) → a * n + b ≡ place → getD (set square place v) (a * n + b) 0 ≡ v
+      entry a b same = ap (λ (i : ℕ). getD (set square place v) i 0) same ∙ here
+
+      moved : (a b : ℕ) → a < n → b < n → a * n + b ≡ place
+          → ((e : Edge) × e ∈ edgesOf source sink delay × (e .source ≡ getD source j 0) × (e .sink ≡ getD sink j 0) × (e .delay ≡ v))
+          → (e : Edge) × e ∈ edgesOf source sink delay × (e .source ≡ a) × (e .sink ≡ b) × (e .delay ≡ getD (set square place v) (a * n + b) 0)
+      moved a b k l same (e, m, from, to, turns) =
+          let row : a ≡ getD source j 0 = same-row n a b (getD source j 0) (getD sink j 0) l (ends .1) same in
+          let column : b ≡ getD sink j 0 = omega (arith, same, ap (λ (i : ℕ). i * n) row) in
+          (e, m, from ∙ sym row, to ∙ sym column, turns ∙ sym (entry a b same))
+
+      go : (a b : ℕ) → a < n → b < n → getD (set square place v) (a * n + b) 0 < 16383 → (a * n + b ≡ place) ⊎ (a * n + b ≡ place → ⊥)
+          → (e : Edge) × e ∈ edgesOf source sink delay × (e .source ≡ a) × (e .sink ≡ b) × (e .delay ≡ getD (set square place v) (a * n + b) 0)
+      go a b k l short (inl same) = moved a b k l same (own (omega (arith, entry a b same)) (order (getD square place 0) (getD delay j 0)))
+      go a b k l short (inr other) =
+          let kept : getD (set square place v) (a * n + b) 0 ≡ getD square (a * n + b) 0 = getD-set-other square place (a * n + b) v 0 other in
+          let old = taken .held a b k l (omega arith) in
+          (old .0, old .1, old .2, old .3, old .4 ∙ sym kept)
+
+      low : (i : ℕ) → i < j + 1 → (j ≤ i) ⊎ (i < j) → stepAt n (set square place v) (getD source i 0) (getD sink i 0) ≤ getD delay i 0
+      low i l (inr earlier) =
+          let lower = set-low square place v inside (omega (arith, value)) (getD source i 0 * n + getD sink i 0) in
+          omega (arith, lower, taken .least i earlier)
+      low i l (inl last) =
+          let same : j ≡ i = omega arith in
+          subst (λ (x : ℕ). stepAt n (set square place v) (getD source x 0) (getD sink x 0) ≤ getD delay x 0) same (omega (arith, here, value))
+
+  pub all-taken :
+      {count : ℕ} {square : List ℕ} → Fit n (edgesOf source sink delay) → length source ≤ count → Taken n room source sink delay count square
+      → StepsOf n (edgesOf source sink delay) square
+  unfolding heldEdge
+  all-taken {count} {square} fit whole taken = record {
+    ends = fit .ends;
+    held = taken .held;
+    least = λ e m.
+        let found = edge-out source sink delay e m in
+        subst (λ (f : Edge). stepAt n square (f .source) (f .sink) ≤ f .delay) (sym (found .2)) (taken .least (found .0) (omega (arith, found .1)));
+  }
 
 -- the front of the square, as long as n rows of n
-pub steps-front : {n size : ℕ} {rs : List Edge} {square : List ℕ} → n * n ≤ size → Stepped n size rs square → length (front (n * n) square) ≡ n * n
-steps-front {n} {size} {rs} {square} fits held =
-    let room : length square ≡ size = held .room in
-    ap (λ (k : ℕ). length (take k square)) (sub-zero (n * n)) ∙ length-take-le (n * n) square (omega arith)
+module _ {n room : ℕ} {rs : List Edge} {square : List ℕ} (fits : n * n ≤ room) (size : length square ≡ room) (steps : StepsOf n rs square) where
+  pub front-length : length (front (n * n) square) ≡ n * n
+  front-length = ap (λ (k : ℕ). length (take k square)) (sub-zero (n * n)) ∙ length-take-le (n * n) square (omega arith)
+
+  pub front-steps : StepsOf n rs (front (n * n) square)
+  front-steps = record {
+    ends = steps .ends;
+    held = λ a b k l short.
+        let same = as-before a b k l in
+        let old = steps .held a b k l (omega arith) in
+        (old .0, old .1, old .2, old .3, old .4 ∙ sym same);
+    least = λ e m. let ends = steps .ends e m in omega (arith, as-before (e .source) (e .sink) (ends .0) (ends .1), steps .least e m);
+  }
+    where
+      as-before : (a b : ℕ) → a < n → b < n → stepAt n (front (n * n) square) a b ≡ stepAt n square a b
+      as-before a b k l =
+          ap (λ (i : ℕ). getD (take i square) (a * n + b) 0) (sub-zero (n * n)) ∙ getD-take (n * n) square (a * n + b) 0 (place-within n n a b k l)
 
 -- the edge that a search finds
 pub found-above :
@@ -206,29 +267,19 @@ module _ {n : ℕ} (few : n ≤ 64) (source sink delay : List ℕ) (rs : List Ed
       let e = heldEdge source sink delay (n + i) in
       not-lost i (decides-yes (order-holds-is n rs ends e) (path-held ends e (path-edge (there (n + i) (omega arith))) (le-refl (e .delay))))))
 
-  module _ {size : ℕ} {square : List ℕ} (fits : n * n ≤ size) (ends : Ends n rs) (is : Stepped n size rs square) where
-    order-stepped : (i : ℕ) → n + i < length source → between n source sink (front (n * n) square) i ≤ getD delay (n + i) 0 → held i ≡ true
+  module _ {steps : List ℕ} (is : StepsOf n rs steps) where
+    order-stepped : (i : ℕ) → n + i < length source → between n source sink steps i ≤ getD delay (n + i) 0 → held i ≡ true
     unfolding heldEdge
     order-stepped i below within =
         let e = heldEdge source sink delay (n + i) in
-        let member = edge-in source sink delay (n + i) below in
-        let own = fit .ends e member in
-        let short = fit .delays e member in
-        let place = e .source * n + e .sink in
-        let inside : place < n * n = place-within n n (e .source) (e .sink) (own .0) (own .1) in
-        let small : place < size = omega (arith, inside, fits) in
-        let same : getD (front (n * n) square) place 0 ≡ getD square place 0 =
-        ap (λ (k : ℕ). getD (take k square) place 0) (sub-zero (n * n)) ∙ getD-take (n * n) square place 0 inside in
-        let found = is .steps place small (omega (arith, same, within, short)) in
-        let f = found .0 in
-        let there = ends f (found .1) in
-        let from : f .source ≡ e .source = same-row n (f .source) (f .sink) (e .source) (e .sink) (there .1) (own .1) (found .2) in
-        let to : f .sink ≡ e .sink = omega (arith, found .2, ap (λ (k : ℕ). k * n) from) in
-        decides-yes (order-holds-is n rs ends e) (path-held ends e (path-ends from to (path-edge (found .1))) (omega (arith, found .3, same, within)))
+        let own = fit-at source sink delay (n + i) fit below in
+        let found = is .held (e .source) (e .sink) (own .0) (own .1) (omega (arith, own .2, within)) in
+        decides-yes (order-holds-is n rs (is .ends) e)
+        (path-held (is .ends) e (path-ends (found .2) (found .3) (path-edge (found .1))) (omega (arith, found .4, within)))
 
     -- the search in the square of single edges, where it finds nothing
     pub none-lost-by-steps :
-        {r : Refusal} → FirstAbove n source sink delay (front (n * n) square) r → r .number ≡ 0 → r ≡ lostFrom n rs source sink delay
+        {r : Refusal} → FirstAbove n source sink delay steps r → r .number ≡ 0 → r ≡ lostFrom n rs source sink delay
     unfolding lostFrom
     none-lost-by-steps (above j found below kept beyond) zero = let z : _≡_ {A = ℕ} 14 0 = number-same (sym found) ∙ zero in absurd (omega arith)
     none-lost-by-steps (all-within passed kept) zero =
@@ -238,8 +289,8 @@ module _ {n : ℕ} (few : n ≤ 64) (source sink delay : List ℕ) (rs : List Ed
         (λ i earlier. not-lost i (order-stepped i (omega arith) (kept i (omega arith)))))
 
     -- the search in the square of single edges, where it finds one edge alone: its order decides
-    module _ {r : Refusal} (first : FirstAbove n source sink delay (front (n * n) square) r) (refuses : r .number ≡ 0 → ⊥)
-        (others : NoneAbove n source sink delay (front (n * n) square) (r .place)) where
+    module _ {r : Refusal} (first : FirstAbove n source sink delay steps r) (refuses : r .number ≡ 0 → ⊥)
+        (others : NoneAbove n source sink delay steps (r .place)) where
       abbrev alone : ℕ
       alone = found-above first refuses .0
 

@@ -22,13 +22,6 @@ pub data FoundCyclic (n : ℕ) (rs : List Edge) (source sink : List ℕ) (r : �
 abbrev pub Among : List ℕ → List ℕ → List ℕ → List Edge → Type 0
 Among source sink delay rs = (j : ℕ) → j < length source → heldEdge source sink delay j ∈ rs
 
--- n rows of n entries at the front of so many: each that a delay can be, of at most 255, is no less than that of an edge of rs with these ends
-pub record Stepped (n size : ℕ) (rs : List Edge) (square : List ℕ) : Type 0 where
-  pub room : length square ≡ size
-  pub steps :
-      (i : ℕ) → i < size → getD square i 0 ≤ 255 →
-      (e : Edge) × e ∈ rs × (e .source * n + e .sink ≡ i) × (e .delay ≤ getD square i 0)
-
 -- a table's entry for the ends of edge number i, from 0, of those behind the first n
 abbrev pub between : ℕ → List ℕ → List ℕ → List ℕ → ℕ → ℕ
 between n source sink table i = getD table (getD source (n + i) 0 * n + getD sink (n + i) 0) 0

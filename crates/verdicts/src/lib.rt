@@ -1,19 +1,19 @@
 // Refusals 13 to 15: the verdict on proposed edges beside an accepted graph. No file is asked for: the edges may come from anywhere.
 ghost use mathlib.Core.Path.{_≡_};
 ghost use mathlib.Core.List.{List};
-ghost use mathlib.Core.Logic.{_⊎_};
 ghost use mathlib.Core.Bool.{true};
 ghost use Prim.Native.Nat.{ℕ, _+_, _*_, _≤_, _<_};
 ghost use lib.ListN.{length, replicate};
-ghost use Rattle.model.specs.Tasks.{Edge, Ends};
+ghost use Rattle.model.specs.Tasks.{Edge};
 ghost use Rattle.model.specs.Graph.{Graph};
 ghost use Rattle.model.specs.Compute.{orderHolds};
 ghost use Rattle.records.specs.Columns.{edgesOf, at};
 ghost use Rattle.delays.specs.Delays.{Fit, edge};
 ghost use Rattle.reach.specs.Reach.{ReachesOn};
+ghost use Rattle.ways.specs.Ways.{StepsOf};
 ghost use Rattle.readings.specs.Working.{graphFrom, proposalFrom};
 ghost use Rattle.verdicts.specs.Verdicts.{judgement, OpenPlace, Judgeable};
-ghost use Rattle.verdicts.specs.Tables.{FoundCyclic, Among, Stepped, FirstAbove, NoneAbove, lostFrom};
+ghost use Rattle.verdicts.specs.Tables.{FoundCyclic, Among, FirstAbove, NoneAbove, lostFrom};
 use files::Refusal;
 use reach::leads_to;
 use reach::paths_between_processors;
@@ -21,6 +21,7 @@ use reach::processor_of;
 use readings::GraphNumbers;
 use readings::ProposalNumbers;
 use results::result_edges_into;
+use sweeps::lesser;
 use tables::least_table;
 use ways::least_row;
 
@@ -65,16 +66,6 @@ fn cyclic_place<'a>(source: &'a [u8], sink: &'a [u8], processor: &'a [u8], words
     0
 }
 
-// The smaller of two delays.
-fn lesser(a: u16, b: u16) -> u16
-    ensures { λ r. ⌜ (r ≡ a) ⊎ (r ≡ b) ⌝ }
-{
-    if b < a {
-        return b;
-    }
-    a
-}
-
 // Lowers the entry of each edge's ends to its delay.
 fn take_steps<'a>(
     source: &'a [u8],
@@ -86,7 +77,8 @@ fn take_steps<'a>(
     requires { ⌜ (length (now sink) ≡ length (now source)) × (length (now delay) ≡ length (now source)) ⌝ }
     requires { ⌜ (tasks ≤ 64) × (tasks * tasks ≤ length (now square)) × (now square ≡ replicate (length (now square)) 65535) ⌝ }
     requires { ⌜ Fit tasks (edgesOf (now source) (now sink) (now delay)) ⌝ }
-    ensures { λ _. ⌜ Stepped tasks (length (now (square .entry))) (edgesOf (now (source .entry)) (now (sink .entry)) (now (delay .entry))) (now (square .exit)) ⌝ }
+    ensures size { λ _. ⌜ length (now (square .exit)) ≡ length (now (square .entry)) ⌝ }
+    ensures steps { λ _. ⌜ StepsOf tasks (edgesOf (now (source .entry)) (now (sink .entry)) (now (delay .entry))) (now (square .exit)) ⌝ }
 {
     let mut j = 0;
     while j < source.len() {
@@ -153,27 +145,13 @@ fn none_above<'a>(
     true
 }
 
-// Whether the result holds the order of an edge: by the least delays out of its source.
-fn order_held<'a>(
-    source: u8,
-    sink: u8,
-    delay: u8,
-    result_source: &'a [u8],
-    result_sink: &'a [u8],
-    result_delay: &'a [u8],
-) -> bool
-    requires { ⌜ (length (now «result_sink») ≡ length (now «result_source»)) × (length (now «result_delay») ≡ length (now «result_source»)) ⌝ }
-    requires { ⌜ (sink < 64) × Fit 64 (edgesOf (now «result_source») (now «result_sink») (now «result_delay»)) ⌝ }
-    ensures { λ r. ⌜ ((n : ℕ) → Ends n (edgesOf (now («result_source» .entry)) (now («result_sink» .entry)) (now («result_delay» .entry))) → r ≡ orderHolds n (edgesOf (now («result_source» .entry)) (now («result_sink» .entry)) (now («result_delay» .entry))) (edge source sink delay)) ⌝ }
+// Whether a result holds the order of an edge, by its single steps: the least delays out of the edge's source decide.
+fn order_held(source: u8, sink: u8, delay: u8, steps: &[u16], tasks: usize) -> bool
+    requires { ⌜ (tasks ≤ 64) × (length (now steps) ≡ tasks * tasks) × (source < tasks) × (sink < tasks) ⌝ }
+    ensures { λ r. ⌜ ((rs : List Edge) → StepsOf tasks rs (now (steps .entry)) → r ≡ orderHolds tasks rs (edge source sink delay)) ⌝ }
 {
     let mut row: [u16; 64] = [FAR; 64];
-    least_row(
-        result_source,
-        result_sink,
-        result_delay,
-        source as usize,
-        &mut row,
-    );
+    least_row(steps, tasks, source as usize, &mut row);
     row[sink as usize] <= delay as u16
 }
 
@@ -210,9 +188,8 @@ fn lost_by<'a>(
             source[alone],
             sink[alone],
             delay[alone],
-            result_source,
-            result_sink,
-            result_delay,
+            &table[0..tasks * tasks],
+            tasks,
         ) {
             return PASSED;
         }
@@ -281,8 +258,8 @@ fn lost_order<'a>(
     )
 }
 
-// Judges proposed edges beside a graph, whose lists stand apart from their numbers, by a sequence of tasks along which least delays are quick to find; any
-// will do.
+// Judges proposed edges beside a graph, whose lists stand apart from their numbers. The result's latency comes before 14, since the sequence in which its
+// first turn takes the tasks is one along which its least delays are quick to find; any will do.
 pub fn judge<'a>(
     graph: GraphNumbers,
     processor: &'a [u8],
@@ -294,10 +271,8 @@ pub fn judge<'a>(
     proposed_source: &'a [u8],
     proposed_sink: &'a [u8],
     proposed_delay: &'a [u8],
-    sequence: &'a [u8],
 ) -> Judgement
     requires { ⌜ ((g : Graph) × (proposed : List Edge) × Judgeable (graphFrom graph (now processor) (now time) (now source) (now sink) (now delay)) (proposalFrom proposal (now «proposed_source») (now «proposed_sink») (now «proposed_delay»)) g proposed) ⌝ }
-    requires { ⌜ length (now sequence) ≤ 64 ⌝ }
     ensures { λ r. ⌜ ((g : Graph) (proposed : List Edge) → Judgeable (graphFrom graph (now (processor .entry)) (now (time .entry)) (now (source .entry)) (now (sink .entry)) (now (delay .entry))) (proposalFrom proposal (now («proposed_source» .entry)) (now («proposed_sink» .entry)) (now («proposed_delay» .entry))) g proposed → r ≡ judgement g proposed (r .refusal .place)) ⌝ }
     ensures { λ r. ⌜ ((g : Graph) (proposed : List Edge) → Judgeable (graphFrom graph (now (processor .entry)) (now (time .entry)) (now (source .entry)) (now (sink .entry)) (now (delay .entry))) (proposalFrom proposal (now («proposed_source» .entry)) (now («proposed_sink» .entry)) (now («proposed_delay» .entry))) g proposed → r .refusal .number ≡ 13 → OpenPlace g proposed (r .refusal .place)) ⌝ }
 {
@@ -337,6 +312,15 @@ pub fn judge<'a>(
             latency: 0,
         };
     }
+    let mut sequence: [u8; 64] = [0; 64];
+    let latency = starts::latency(
+        &result_source[0..count],
+        &result_sink[0..count],
+        &result_delay[0..count],
+        &time[0..tasks],
+        graph.output as usize,
+        &mut sequence,
+    );
     let lost = lost_order(
         &source[0..end],
         &sink[0..end],
@@ -346,7 +330,7 @@ pub fn judge<'a>(
         &result_delay[0..count],
         proposed,
         tasks,
-        sequence,
+        &sequence[0..tasks],
     );
     if lost.number != 0 {
         return Judgement {
@@ -354,13 +338,6 @@ pub fn judge<'a>(
             latency: 0,
         };
     }
-    let latency = starts::latency(
-        &result_source[0..count],
-        &result_sink[0..count],
-        &result_delay[0..count],
-        &time[0..tasks],
-        graph.output as usize,
-    );
     if graph.bound < latency {
         return Judgement {
             refusal: LATE,

@@ -4,4 +4,5 @@ pub mod Ends
 pub mod Lifts
 pub mod Rounds
 pub mod Earlier
-pub mod Later
+pub mod Linked
+pub mod Gathering

@@ -1,2 +1,3 @@
 pub mod Waits
 pub mod Rounds
+pub mod Chains

@@ -1,13 +1,15 @@
 // Starts of one turn, raised as little as possible until edges are kept.
 ghost use mathlib.Core.Path.{_≡_};
 ghost use mathlib.Core.Bool.{true, false};
+ghost use mathlib.Core.List.{List};
 ghost use Prim.Native.Nat.{ℕ, _+_, _-_, _*_, _≤_, _<_};
-ghost use lib.ListN.{length};
+ghost use lib.ListN.{length, getD, replicate};
 ghost use Rattle.model.specs.Lists.{tabulate};
-ghost use Rattle.model.specs.Tasks.{Ends};
+ghost use Rattle.model.specs.Tasks.{Edge, Ends};
 ghost use Rattle.records.specs.Columns.{edgesOf, zeros, at};
-ghost use Rattle.waits.specs.Waits.{Settles, Awaits, LaterEdges};
+ghost use Rattle.waits.specs.Waits.{Settles, Awaits};
 ghost use Rattle.waits.specs.Rounds.{Raised};
+ghost use Rattle.waits.specs.Chains.{ChainedBy, Gathered, WaitsAt, Late};
 
 // What one round over the edges did: whether it raised a start, and whether it ended because one would have to pass the limit.
 struct Round {
@@ -97,76 +99,70 @@ pub fn settle<'a>(
     }
 }
 
-// Raises the starts of a turn to what edges of delay 1 or more ask for, whose sources ended in earlier turns.
-pub fn await_earlier<'a>(
-    source: &'a [u8],
-    sink: &'a [u8],
-    delay: &'a [u8],
-    ended: &'a [u32],
-    turn: usize,
-    row: &mut [u32],
-)
-    requires { ⌜ (length (now sink) ≡ length (now source)) × (length (now delay) ≡ length (now source)) ⌝ }
-    requires { ⌜ (1 ≤ turn) × (turn ≤ 64) × (length (now row) ≤ 64) ⌝ }
-    requires { ⌜ (turn - 1) * length (now row) ≤ length (now ended) ⌝ }
-    requires { ⌜ Ends (length (now row)) (edgesOf (now source) (now sink) (now delay)) ⌝ }
+// Raises the starts of a turn to what edges of delay 1 or more ask for, whose sources ended in earlier turns: `back` says how many places before the end
+// of the list the end of a source stands.
+pub fn await_earlier<'a>(back: &'a [u16], sink: &'a [u8], ended: &'a [u32], row: &mut [u32])
+    requires { ⌜ length (now sink) ≡ length (now back) ⌝ }
+    requires { ⌜ ((k : ℕ) → k < length (now back) → (1 ≤ getD (now back) k 0) × (getD (now back) k 0 ≤ length (now ended)) × (getD (now sink) k 0 < length (now row))) ⌝ }
     ensures size { λ _. ⌜ length (now (row .exit)) ≡ length (now (row .entry)) ⌝ }
-    ensures kept { λ _. ⌜ Awaits (length (now (row .entry))) (edgesOf (now (source .entry)) (now (sink .entry)) (now (delay .entry))) (now (ended .entry)) turn (at (now (row .entry))) (at (now (row .exit))) ⌝ }
-    ensures lowest { λ _. ⌜ ((f : ℕ → ℕ) → Awaits (length (now (row .entry))) (edgesOf (now (source .entry)) (now (sink .entry)) (now (delay .entry))) (now (ended .entry)) turn (at (now (row .entry))) f → (v : ℕ) → v < length (now (row .entry)) → at (now (row .exit)) v ≤ f v) ⌝ }
+    ensures kept { λ _. ⌜ ((es : List Edge) (turn : ℕ) → Late es (length (now (row .entry))) turn (now (back .entry)) (now (sink .entry)) → length (now (ended .entry)) ≡ (turn - 1) * length (now (row .entry)) → Awaits (length (now (row .entry))) es (now (ended .entry)) turn (at (now (row .entry))) (at (now (row .exit)))) ⌝ }
+    ensures lowest { λ _. ⌜ ((es : List Edge) (turn : ℕ) → Late es (length (now (row .entry))) turn (now (back .entry)) (now (sink .entry)) → length (now (ended .entry)) ≡ (turn - 1) * length (now (row .entry)) → (f : ℕ → ℕ) → Awaits (length (now (row .entry))) es (now (ended .entry)) turn (at (now (row .entry))) f → (v : ℕ) → v < length (now (row .entry)) → at (now (row .exit)) v ≤ f v) ⌝ }
 {
-    let tasks = row.len();
+    let at = ended.len();
     let mut j = 0;
-    while j < source.len() {
-        let d = delay[j] as usize;
-        if 0 < d {
-            if d < turn {
-                let end = ended[(turn - 1 - d) * tasks + source[j] as usize];
-                let t = sink[j] as usize;
-                if row[t] < end {
-                    row[t] = end;
-                }
-            }
+    while j < back.len() {
+        let end = ended[at - back[j] as usize];
+        let t = sink[j] as usize;
+        if row[t] < end {
+            row[t] = end;
         }
         j += 1;
     }
 }
 
-// 1 if an edge of this delay lets turns wait for earlier ones among so many, else 0.
-fn one_if_later(delay: u8, turns: usize) -> usize
-    ensures later { λ r. ⌜ (0 < delay → delay < turns → r ≡ 1) ⌝ }
-    ensures few { λ r. ⌜ r ≤ 1 ⌝ }
+// Chains the edges by their delays, from the last to the first: each goes before those of its delay that are in a chain. The number of edges ends a chain.
+pub fn chain_delays<'a>(delay: &[u8], head: &'a mut [u16], link: &'a mut [u16])
+    requires { ⌜ (length (now delay) ≤ 320) × (now head ≡ replicate 256 (length (now delay))) × (length (now link) ≡ 320) ⌝ }
+    ensures { λ _. ⌜ ChainedBy (now (delay .entry)) 0 (now (head .exit)) (now (link .exit)) ⌝ }
 {
-    if delay == 0 {
-        return 0;
+    let mut j = delay.len();
+    while j > 0 {
+        j -= 1;
+        let d = delay[j] as usize;
+        link[j] = head[d];
+        head[d] = j as u16;
     }
-    if turns <= delay as usize {
-        return 0;
-    }
-    1
 }
 
-// The edges that let some of the first turns wait for earlier ones, at the front of three lists. Gives how many.
-pub fn later_edges<'a, 'b>(
+// When so many turns are done, the edges of that delay begin to let turns wait: takes them from their chain to those that do already, at the front of two
+// lists. Gives how many there are then.
+pub fn take_chain<'a, 'b>(
     source: &'a [u8],
     sink: &'a [u8],
     delay: &'a [u8],
-    turns: usize,
-    to_source: &'b mut [u8],
+    head: &'a [u16],
+    link: &'a [u16],
+    done: usize,
+    tasks: usize,
+    many: usize,
+    back: &'b mut [u16],
     to_sink: &'b mut [u8],
-    to_delay: &'b mut [u8],
 ) -> usize
-    requires { ⌜ (length (now sink) ≡ length (now source)) × (length (now delay) ≡ length (now source)) × (length (now source) ≤ 576) ⌝ }
-    requires { ⌜ (length (now «to_source») ≡ 576) × (length (now «to_sink») ≡ 576) × (length (now «to_delay») ≡ 576) ⌝ }
-    ensures { λ r. ⌜ LaterEdges (now (source .entry)) (now (sink .entry)) (now (delay .entry)) turns (length (now (source .entry))) (now («to_source» .exit)) (now («to_sink» .exit)) (now («to_delay» .exit)) r ⌝ }
+    requires { ⌜ (length (now sink) ≡ length (now source)) × (length (now delay) ≡ length (now source)) ⌝ }
+    requires { ⌜ (1 ≤ done) × (done ≤ 64) × (tasks ≤ 64) ⌝ }
+    requires { ⌜ Ends tasks (edgesOf (now source) (now sink) (now delay)) ⌝ }
+    requires { ⌜ ChainedBy (now delay) 0 (now head) (now link) ⌝ }
+    requires { ⌜ Gathered (now source) (now sink) (now delay) tasks (WaitsAt (now delay) done) (now back) (now «to_sink») many ⌝ }
+    ensures { λ r. ⌜ Gathered (now (source .entry)) (now (sink .entry)) (now (delay .entry)) tasks (WaitsAt (now (delay .entry)) (done + 1)) (now (back .exit)) (now («to_sink» .exit)) r ⌝ }
 {
-    let mut count = 0;
-    let mut j = 0;
-    while j < source.len() {
-        to_source[count] = source[j];
+    let far = done * tasks;
+    let mut count = many;
+    let mut j = head[done] as usize;
+    while j < delay.len() {
+        back[count] = (far - source[j] as usize) as u16;
         to_sink[count] = sink[j];
-        to_delay[count] = delay[j];
-        count += one_if_later(delay[j], turns);
-        j += 1;
+        count += 1;
+        j = link[j] as usize;
     }
     count
 }

@@ -1,2 +1,2 @@
--- The proofs of this crate alone.
-mod Ways
+-- The proofs that other crates may cite.
+pub mod Ways

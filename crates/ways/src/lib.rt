@@ -1,100 +1,62 @@
-// Least delays out of one task: a row, lowered along edges until none betters it. Edges are passed from the last to the first and back, so that a path is
-// followed in few rounds whichever way its edges stand in the lists; what is proved does not depend on it.
+// Least delays out of one task, by a square of single steps between tasks: a row, lowered along the steps until none betters it. Whenever the entry of a task
+// has fallen, the whole row of steps out of it is gone through, many entries at once.
 ghost use mathlib.Core.Path.{_≡_};
-ghost use Prim.Native.Nat.{ℕ, _+_, _<_};
+ghost use mathlib.Core.List.{List};
+ghost use Prim.Native.Nat.{ℕ, _+_, _*_, _≤_, _<_};
 ghost use lib.ListN.{length, getD, replicate};
-ghost use Rattle.records.specs.Columns.{edgesOf};
-ghost use Rattle.delays.specs.Delays.{Fit};
+ghost use Rattle.model.specs.Tasks.{Edge};
 ghost use Rattle.sweeps.specs.Sweeps.{Lowest};
-ghost use Rattle.ways.specs.Ways.{WaysFrom, Passed};
+ghost use Rattle.ways.specs.Ways.{StepsOf, Pushed, Seen, Passed};
+use sweeps::lesser;
 use sweeps::nearer;
 
-// Lowers the entry of the sink of each edge out of a task to the edge's delay.
-fn take_edges<'a>(source: &'a [u8], sink: &'a [u8], delay: &'a [u8], s: usize, row: &mut [u16])
-    requires { ⌜ (length (now sink) ≡ length (now source)) × (length (now delay) ≡ length (now source)) ⌝ }
-    requires { ⌜ Fit 64 (edgesOf (now source) (now sink) (now delay)) ⌝ }
-    requires { ⌜ now row ≡ replicate 64 16383 ⌝ }
-    ensures { λ _. ⌜ WaysFrom (now (source .entry)) (now (sink .entry)) (now (delay .entry)) s (length (now (source .entry))) (now (row .exit)) ⌝ }
+// No path: above every delay, and twice as much still fits a signed number of 16 bits.
+const FAR: u16 = 16383;
+
+// Lowers each entry of a row to a way and the step after it.
+fn push_row(steps: &[u16], start: usize, tasks: usize, way: u16, row: &mut [u16])
+    requires { ⌜ (start + tasks ≤ length (now steps)) × (tasks ≤ length (now row)) × (way ≤ 16383) ⌝ }
+    requires { ⌜ ((b : ℕ) → b < tasks → getD (now row) b 0 ≤ 16383) ⌝ }
+    ensures { λ _. ⌜ Pushed (now (steps .entry)) start tasks way (now (row .entry)) (now (row .exit)) ⌝ }
 {
-    let mut j = 0;
-    while j < source.len() {
-        if source[j] as usize == s {
-            let t = sink[j] as usize;
-            row[t] = nearer(row[t], delay[j] as u16);
+    let mut b = 0;
+    while b < tasks {
+        row[b] = nearer(row[b], way + lesser(steps[start + b], FAR));
+        b += 1;
+    }
+}
+
+// Pushes the row of each task whose entry has fallen below what was seen of it. Tells whether there was one.
+fn round<'a>(steps: &[u16], tasks: usize, row: &'a mut [u16], seen: &'a mut [u16]) -> bool
+    requires { ⌜ (tasks ≤ 64) × (length (now steps) ≡ tasks * tasks) ⌝ }
+    requires { ⌜ ((s : ℕ) × Seen tasks (now steps) s (now row) (now seen)) ⌝ }
+    ensures { λ r. ⌜ Passed tasks (now (steps .entry)) tasks (now (row .entry)) (now (seen .entry)) (now (row .exit)) (now (seen .exit)) r ⌝ }
+{
+    let mut changed = false;
+    let mut u = 0;
+    while u < tasks {
+        let way = row[u];
+        if way < seen[u] {
+            seen[u] = way;
+            push_row(steps, u * tasks, tasks, way, row);
+            changed = true;
         }
-        j += 1;
-    }
-}
-
-// Lowers the entry of an edge's sink to that of its source and the edge's delay. Tells whether it changed.
-fn pass_edge<'a>(
-    source: &'a [u8],
-    sink: &'a [u8],
-    delay: &'a [u8],
-    k: usize,
-    row: &mut [u16],
-) -> bool
-    requires { ⌜ (length (now sink) ≡ length (now source)) × (length (now delay) ≡ length (now source)) × (k < length (now source)) ⌝ }
-    requires { ⌜ Fit 64 (edgesOf (now source) (now sink) (now delay)) ⌝ }
-    requires { ⌜ ((s : ℕ) × WaysFrom (now source) (now sink) (now delay) s (length (now source)) (now row)) ⌝ }
-    ensures { λ r. ⌜ Passed (now (source .entry)) (now (sink .entry)) (now (delay .entry)) k (k + 1) (now (row .entry)) (now (row .exit)) r ⌝ }
-{
-    let way = row[source[k] as usize] + delay[k] as u16;
-    let t = sink[k] as usize;
-    let before = row[t];
-    let after = nearer(before, way);
-    row[t] = after;
-    after != before
-}
-
-// Passes every edge, the last first. Tells whether an entry changed.
-fn pass_down<'a>(source: &'a [u8], sink: &'a [u8], delay: &'a [u8], row: &mut [u16]) -> bool
-    requires { ⌜ (length (now sink) ≡ length (now source)) × (length (now delay) ≡ length (now source)) ⌝ }
-    requires { ⌜ Fit 64 (edgesOf (now source) (now sink) (now delay)) ⌝ }
-    requires { ⌜ ((s : ℕ) × WaysFrom (now source) (now sink) (now delay) s (length (now source)) (now row)) ⌝ }
-    ensures { λ r. ⌜ Passed (now (source .entry)) (now (sink .entry)) (now (delay .entry)) 0 (length (now (source .entry))) (now (row .entry)) (now (row .exit)) r ⌝ }
-{
-    let mut changed = false;
-    let mut k = source.len();
-    while 0 < k {
-        k -= 1;
-        let fell = pass_edge(source, sink, delay, k, row);
-        changed = changed | fell;
-    }
-    changed
-}
-
-// Passes every edge, the first first. Tells whether an entry changed.
-fn pass_up<'a>(source: &'a [u8], sink: &'a [u8], delay: &'a [u8], row: &mut [u16]) -> bool
-    requires { ⌜ (length (now sink) ≡ length (now source)) × (length (now delay) ≡ length (now source)) ⌝ }
-    requires { ⌜ Fit 64 (edgesOf (now source) (now sink) (now delay)) ⌝ }
-    requires { ⌜ ((s : ℕ) × WaysFrom (now source) (now sink) (now delay) s (length (now source)) (now row)) ⌝ }
-    ensures { λ r. ⌜ Passed (now (source .entry)) (now (sink .entry)) (now (delay .entry)) 0 (length (now (source .entry))) (now (row .entry)) (now (row .exit)) r ⌝ }
-{
-    let mut changed = false;
-    let mut k = 0;
-    while k < source.len() {
-        let fell = pass_edge(source, sink, delay, k, row);
-        changed = changed | fell;
-        k += 1;
+        u += 1;
     }
     changed
 }
 
 // Lowers a row until it holds the least delays out of task s to each task, 16,383 where there is no path; it holds 16,383 everywhere at first.
-pub fn least_row<'a>(source: &'a [u8], sink: &'a [u8], delay: &'a [u8], s: usize, row: &mut [u16])
-    requires { ⌜ (length (now sink) ≡ length (now source)) × (length (now delay) ≡ length (now source)) ⌝ }
-    requires { ⌜ Fit 64 (edgesOf (now source) (now sink) (now delay)) ⌝ }
+pub fn least_row(steps: &[u16], tasks: usize, s: usize, row: &mut [u16])
+    requires { ⌜ (tasks ≤ 64) × (length (now steps) ≡ tasks * tasks) × (s < tasks) ⌝ }
     requires { ⌜ now row ≡ replicate 64 16383 ⌝ }
     ensures size { λ _. ⌜ length (now (row .exit)) ≡ 64 ⌝ }
-    ensures lowest { λ _. ⌜ ((b : ℕ) → b < 64 → Lowest (edgesOf (now (source .entry)) (now (sink .entry)) (now (delay .entry))) s b (getD (now (row .exit)) b 0)) ⌝ }
+    ensures lowest { λ _. ⌜ ((es : List Edge) → StepsOf tasks es (now (steps .entry)) → (b : ℕ) → b < tasks → Lowest es s b (getD (now (row .exit)) b 0)) ⌝ }
 {
-    take_edges(source, sink, delay, s, row);
+    let mut seen: [u16; 64] = [FAR; 64];
+    push_row(steps, s * tasks, tasks, 0, row);
     let mut changed = true;
     while changed {
-        changed = pass_down(source, sink, delay, row);
-        if changed {
-            changed = pass_up(source, sink, delay, row);
-        }
+        changed = round(steps, tasks, row, &mut seen);
     }
 }

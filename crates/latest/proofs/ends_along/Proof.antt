@@ -12,9 +12,8 @@ use Rattle.model.specs.Tasks.{Edge, Ends}
 use Rattle.model.specs.Compute.{zeroCycle, latency}
 use Rattle.records.specs.Columns.{edgesOf, zeros, at}
 use Rattle.starts.specs.Starts.{turnRow}
-use Rattle.starts.proofs.Turns.{Ready, end-fits, row-length, row-at, none-ended}
+use Rattle.starts.proofs.Turns.{Ready, end-fits, row-length, row-at}
 use Rattle.starts.proofs.Filling.{endRow, ends-row}
-use Rattle.starts.proofs.Later.{none-late}
 use Rattle.starts.proofs.Fronts.{front-room, front-length}
 use Rattle.latest.specs.Latest.{earliestEnds}
 use Rattle.latest.proofs.ends_along.Statement.{statement}
@@ -37,22 +36,22 @@ ready s =
     }
 
 abbrev start-of : tie.After-turn-starts → tie.Start
-start-of t = t .before .before .before .before .before .before .before .before .before .before .before .before .before .before .before .before .before
+start-of t = t .before .before .before .before .before .before .before .before .before .before .before
 
 abbrev starts-of : tie.Start → List ℕ
 starts-of s = turnRow (length (s .args .time .now)) (edges-of s) (at (s .args .time .now)) 1
 
 -- the first turn's starts come back, and stand at the front of the list
-row-is : (t : tie.After-turn-starts) → t .turn-starts .last .1 .1 .1 .1 .1 .1 .1 .1 .1 .1 .1 .1 .1 .0 ≡ starts-of (start-of t)
+row-is : (t : tie.After-turn-starts) → t .turn-starts .last .1 .1 .1 .1 .1 .1 .1 .1 .0 ≡ starts-of (start-of t)
 unfolding zeros
 row-is t =
     let s = start-of t in
     t .turn-starts .ensures ∙
     ap (λ (m : ℕ). turnRow m (edges-of s) (at (s .args .time .now)) 1)
-    (front-length 64 0 (t .before .before .before .before .before .before .before .before .before .no-starts .ensures) (ready s .few))
+    (front-length 64 0 (t .before .before .before .no-starts .ensures) (ready s .few))
 
 row-part : (t : tie.After-turn-starts) (rest : List ℕ) →
-    take (length (start-of t .args .time .now) - 0) (t .turn-starts .last .1 .1 .1 .1 .1 .1 .1 .1 .1 .1 .1 .1 .1 .0 ++ rest) ≡ starts-of (start-of t)
+    take (length (start-of t .args .time .now) - 0) (t .turn-starts .last .1 .1 .1 .1 .1 .1 .1 .1 .0 ++ rest) ≡ starts-of (start-of t)
 row-part t rest =
     let s = start-of t in
     let n = length (s .args .time .now) in
@@ -65,52 +64,29 @@ no-starts-requires c κs = search needs
 sub-turn-starts : tie.Need-sub-turn-starts
 sub-turn-starts c = search needs
 
-part-turn-starts-start : tie.Need-part-turn-starts-start
-part-turn-starts-start c = search needs
-
-part-turn-starts-end : tie.Need-part-turn-starts-end
-part-turn-starts-end c = search needs
-
-sub-turn-starts-2 : tie.Need-sub-turn-starts-2
-sub-turn-starts-2 c = search needs
-
 part-start-start : tie.Need-part-start-start
 part-start-start c = search needs
 
 part-start-end : tie.Need-part-start-end
 unfolding zeros
-part-start-end c =
-    let start = c .before .before .before .before .before .before .before .before .before .before .before .before .before .before .before in
-    front-room 64 0 (c .before .before .before .before .before .before .before .no-starts .ensures) (ready start .few)
+part-start-end c = front-room 64 0 (c .before .no-starts .ensures) (ready (c .before .before .before .before .before .before .before .before .before) .few)
 
 turn-starts-requires : tie.Need-turn-starts-requires
 unfolding zeros
 turn-starts-requires c κs =
-    let start = c .before .before .before .before .before .before .before .before .before .before .before .before .before .before .before .before in
+    let start = c .before .before .before .before .before .before .before .before .before .before in
     let given = start .pre in
     let graph = ready start in
     let es = edges-of start in
-    let same = sym (front-length 64 0 (c .before .before .before .before .before .before .before .before .no-starts .ensures) (graph .few)) in (
+    let same = sym (front-length 64 0 (c .before .before .no-starts .ensures) (graph .few)) in (
       given .0,
       (
         given .1 .0,
         (
           given .1 .1 .0,
           (
-            (refl, refl),
-            (
-              none-late es _ _ _ refl,
-              (
-                (same, subst (λ (m : ℕ). m ≤ 64) same (graph .few)),
-                (
-                  (omega arith, omega arith),
-                  (
-                    subst (λ (m : ℕ). Ends m es) same (graph .bounds),
-                    (subst (λ (m : ℕ). zeroCycle m es ≡ false) same (graph .none), (graph .file, none-ended _ es (at (start .args .time .now)) _)),
-                  ),
-                ),
-              ),
-            ),
+            (same, subst (λ (m : ℕ). m ≤ 64) same (graph .few)),
+            (subst (λ (m : ℕ). Ends m es) same (graph .bounds), (subst (λ (m : ℕ). zeroCycle m es ≡ false) same (graph .none), graph .file)),
           ),
         ),
       ),
@@ -124,10 +100,11 @@ part-ends-into-start c = search needs
 
 part-ends-into-end : tie.Need-part-ends-into-end
 part-ends-into-end c =
-    let start = start-of (c .before .before) in
-    let row = c .before .before .turn-starts .last .1 .1 .1 .1 .1 .1 .1 .1 .1 .1 .1 .1 .1 .0 in
+    let t = c .before .before in
+    let start = start-of t in
+    let row = t .turn-starts .last .1 .1 .1 .1 .1 .1 .1 .1 .0 in
     let es = edges-of start in
-    let long = row-length (length (start .args .time .now)) es (at (start .args .time .now)) 1 (row-is (c .before .before)) in
+    let long = row-length (length (start .args .time .now)) es (at (start .args .time .now)) 1 (row-is t) in
     subst (λ (m : ℕ). length (start .args .time .now) ≤ m) (sym (length-append row _)) (le-trans (le-of-eq (sym long)) (le-add-right (length row) _))
 
 ends-into-requires : tie.Need-ends-into-requires
@@ -159,51 +136,12 @@ returns c =
     ends-row n es (at (start .args .time .now)) 1 (row-part t _) (c .before .before .ends-into .ensures) ∙
     ap (λ (m : ℕ). earliestEnds m es (at (start .args .time .now))) (start .pre .1 .1 .1 .0 .0)
 
-part-turn-starts-start-2 : tie.Need-part-turn-starts-start-2
-part-turn-starts-start-2 c = search needs
-
-part-turn-starts-end-2 : tie.Need-part-turn-starts-end-2
-part-turn-starts-end-2 c = search needs
-
-sub-turn-starts-3 : tie.Need-sub-turn-starts-3
-sub-turn-starts-3 c = search needs
-
-part-turn-starts-start-3 : tie.Need-part-turn-starts-start-3
-part-turn-starts-start-3 c = search needs
-
-part-turn-starts-end-3 : tie.Need-part-turn-starts-end-3
-part-turn-starts-end-3 c = search needs
-
-sub-turn-starts-4 : tie.Need-sub-turn-starts-4
-sub-turn-starts-4 c = search needs
-
-part-turn-starts-start-4 : tie.Need-part-turn-starts-start-4
-part-turn-starts-start-4 c = search needs
-
-part-turn-starts-end-4 : tie.Need-part-turn-starts-end-4
-part-turn-starts-end-4 c = search needs
-
-sub-turn-starts-5 : tie.Need-sub-turn-starts-5
-sub-turn-starts-5 c = search needs
-
 pub ends-along-spec : {M : Type 1} → statement M
 ends-along-spec =
     tie.close
     (tie.spec
     no-starts-requires
     sub-turn-starts
-    part-turn-starts-start
-    part-turn-starts-end
-    sub-turn-starts-2
-    part-turn-starts-start-2
-    part-turn-starts-end-2
-    sub-turn-starts-3
-    part-turn-starts-start-3
-    part-turn-starts-end-3
-    sub-turn-starts-4
-    part-turn-starts-start-4
-    part-turn-starts-end-4
-    sub-turn-starts-5
     part-start-start
     part-start-end
     turn-starts-requires

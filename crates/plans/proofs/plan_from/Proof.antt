@@ -90,6 +90,12 @@ slice-aggregate-first-times-2 c = search needs
 slice-aggregate-first-times-3 : tie.Need-slice-aggregate-first-times-3
 slice-aggregate-first-times-3 c = search needs
 
+slice-aggregate-first-times-4 : tie.Need-slice-aggregate-first-times-4
+slice-aggregate-first-times-4 c = search needs
+
+slice-aggregate-first-times-5 : tie.Need-slice-aggregate-first-times-5
+slice-aggregate-first-times-5 c = search needs
+
 sub-first-times : tie.Need-sub-first-times
 sub-first-times c = search needs
 
@@ -97,7 +103,7 @@ part-end-start : tie.Need-part-end-start
 part-end-start c = search needs
 
 part-end-end : tie.Need-part-end-end
-part-end-end c = few ((c .before .before .before .before .before .before .before .before .before .before .before .before .before .before .before .before .before .before .before .before .before .before .before .before .before .before .before .before .before .before .before .before .before .before .before .before .before .before .before .pre .1 .1 .1 .1 .1))
+part-end-end c = few ((c .before .before .before .before .before .before .before .before .before .before .before .before .before .before .before .before .before .before .before .before .before .before .before .before .before .before .before .before .before .before .before .before .before .before .before .before .before .before .before .before .before .pre .1 .1 .1 .1 .1))
 
 sub-first-times-2 : tie.Need-sub-first-times-2
 sub-first-times-2 c = search needs
@@ -106,15 +112,18 @@ part-latest-start : tie.Need-part-latest-start
 part-latest-start c = search needs
 
 part-latest-end : tie.Need-part-latest-end
-part-latest-end c = few ((c .before .before .before .before .before .before .before .before .before .before .before .before .before .before .before .before .before .before .before .before .before .before .before .before .before .before .before .before .before .before .before .before .before .before .before .before .before .before .before .before .pre .1 .1 .1 .1 .1))
+part-latest-end c = few ((c .before .before .before .before .before .before .before .before .before .before .before .before .before .before .before .before .before .before .before .before .before .before .before .before .before .before .before .before .before .before .before .before .before .before .before .before .before .before .before .before .before .before .pre .1 .1 .1 .1 .1))
 
 first-times-requires : tie.Need-first-times-requires
 first-times-requires c κs =
-    let given = (c .before .before .before .before .before .before .before .before .before .before .before .before .before .before .before .before .before .before .before .before .before .before .before .before .before .before .before .before .before .before .before .before .before .before .before .before .before .before .before .before .before .pre .1 .1 .1 .1 .1) in (
-      ((c .before .before .before .before .before .before .before .before .before .before .before .before .before .before .before .before .before .before .before .before .before .before .before .before .before .before .before .before .before .before .before .before .before .before .before .before .before .before .before .before .before .pre .0 .0), (c .before .before .before .before .before .before .before .before .before .before .before .before .before .before .before .before .before .before .before .before .before .before .before .before .before .before .before .before .before .before .before .before .before .before .before .before .before .before .before .before .before .pre .0 .1), omega (arith, graph-few given)),
+    let given = (c .before .before .before .before .before .before .before .before .before .before .before .before .before .before .before .before .before .before .before .before .before .before .before .before .before .before .before .before .before .before .before .before .before .before .before .before .before .before .before .before .before .before .before .pre .1 .1 .1 .1 .1) in (
+      ((c .before .before .before .before .before .before .before .before .before .before .before .before .before .before .before .before .before .before .before .before .before .before .before .before .before .before .before .before .before .before .before .before .before .before .before .before .before .before .before .before .before .before .before .pre .0 .0), (c .before .before .before .before .before .before .before .before .before .before .before .before .before .before .before .before .before .before .before .before .before .before .before .before .before .before .before .before .before .before .before .before .before .before .before .before .before .before .before .before .before .before .before .pre .0 .1), omega (arith, graph-few given)),
       (
         (refl, refl, refl),
-        ((row-lent given (replicate 64 0) refl, row-lent given (replicate 64 0) refl), (_, given .lent .graph, given .lent .clocked, given .lent .edges-are)),
+        (
+          (refl, refl),
+          ((row-lent given (replicate 64 0) refl, row-lent given (replicate 64 0) refl), (_, given .lent .graph, given .lent .clocked, given .lent .edges-are)),
+        ),
       ),
     )
 
@@ -127,6 +136,12 @@ slice-aggregate-follow-steps-2 c = search needs
 slice-aggregate-follow-steps-3 : tie.Need-slice-aggregate-follow-steps-3
 slice-aggregate-follow-steps-3 c = search needs
 
+slice-aggregate-follow-steps-4 : tie.Need-slice-aggregate-follow-steps-4
+slice-aggregate-follow-steps-4 c = search needs
+
+slice-aggregate-follow-steps-5 : tie.Need-slice-aggregate-follow-steps-5
+slice-aggregate-follow-steps-5 c = search needs
+
 sub-follow-steps : tie.Need-sub-follow-steps
 sub-follow-steps c = search needs
 
@@ -135,9 +150,9 @@ part-end-start-2 c = search needs
 
 part-end-end-2 : tie.Need-part-end-end-2
 part-end-end-2 c =
-    let given = (c .before .before .before .before .before .before .before .before .before .before .before .before .before .before .before .before .before .before .before .before .before .before .before .before .before .before .before .before .before .before .before .before .before .before .before .before .before .before .before .before .before .before .before .before .before .before .before .before .before .before .before .before .before .before .before .before .before .before .pre .1 .1 .1 .1 .1) in
-    let timed = (c .before .before .before .before .before .before .before .before .before .before .before .before .before .before .before .before .first-times .ensures .1) _ (given .lent .graph) (given .lent .clocked) (given .lent .edges-are) in
-    row-kept given ((c .before .before .before .before .before .before .before .before .before .before .before .before .before .before .before .before .first-times .last .1 .1 .1 .1 .1 .1 .1 .1 .1 .0)) _ (timed-sizes timed .0)
+    let given = (c .before .before .before .before .before .before .before .before .before .before .before .before .before .before .before .before .before .before .before .before .before .before .before .before .before .before .before .before .before .before .before .before .before .before .before .before .before .before .before .before .before .before .before .before .before .before .before .before .before .before .before .before .before .before .before .before .before .before .before .before .before .before .before .before .pre .1 .1 .1 .1 .1) in
+    let timed = (c .before .before .before .before .before .before .before .before .before .before .before .before .before .before .before .before .before .before .before .before .first-times .ensures .1) _ (given .lent .graph) (given .lent .clocked) (given .lent .edges-are) in
+    row-kept given ((c .before .before .before .before .before .before .before .before .before .before .before .before .before .before .before .before .before .before .before .before .first-times .last .1 .1 .1 .1 .1 .1 .1 .1 .1 .1 .1 .0)) _ (timed-sizes timed .0)
 
 sub-follow-steps-2 : tie.Need-sub-follow-steps-2
 sub-follow-steps-2 c = search needs
@@ -147,54 +162,54 @@ part-latest-start-2 c = search needs
 
 part-latest-end-2 : tie.Need-part-latest-end-2
 part-latest-end-2 c =
-    let given = (c .before .before .before .before .before .before .before .before .before .before .before .before .before .before .before .before .before .before .before .before .before .before .before .before .before .before .before .before .before .before .before .before .before .before .before .before .before .before .before .before .before .before .before .before .before .before .before .before .before .before .before .before .before .before .before .before .before .before .before .pre .1 .1 .1 .1 .1) in
-    let timed = (c .before .before .before .before .before .before .before .before .before .before .before .before .before .before .before .before .before .first-times .ensures .1) _ (given .lent .graph) (given .lent .clocked) (given .lent .edges-are) in
-    row-kept given ((c .before .before .before .before .before .before .before .before .before .before .before .before .before .before .before .before .before .first-times .last .1 .1 .1 .1 .1 .1 .1 .1 .1 .1 .0)) _ (timed-sizes timed .1)
+    let given = (c .before .before .before .before .before .before .before .before .before .before .before .before .before .before .before .before .before .before .before .before .before .before .before .before .before .before .before .before .before .before .before .before .before .before .before .before .before .before .before .before .before .before .before .before .before .before .before .before .before .before .before .before .before .before .before .before .before .before .before .before .before .before .before .before .before .pre .1 .1 .1 .1 .1) in
+    let timed = (c .before .before .before .before .before .before .before .before .before .before .before .before .before .before .before .before .before .before .before .before .before .first-times .ensures .1) _ (given .lent .graph) (given .lent .clocked) (given .lent .edges-are) in
+    row-kept given ((c .before .before .before .before .before .before .before .before .before .before .before .before .before .before .before .before .before .before .before .before .before .first-times .last .1 .1 .1 .1 .1 .1 .1 .1 .1 .1 .1 .1 .0)) _ (timed-sizes timed .1)
 
 follow-steps-requires : tie.Need-follow-steps-requires
 follow-steps-requires c κs =
-    let given = (c .before .before .before .before .before .before .before .before .before .before .before .before .before .before .before .before .before .before .before .before .before .before .before .before .before .before .before .before .before .before .before .before .before .before .before .before .before .before .before .before .before .before .before .before .before .before .before .before .before .before .before .before .before .before .before .before .before .before .before .before .pre .1 .1 .1 .1 .1) in
-    let zeros = (c .before .before .before .before .before .before .before .before .before .before .before .before .before .before .before .before .before .before .before .before .before .before .before .before .before .before .before .before .before .before .before .before .before .before .before .before .before .before .before .before .before .before .before .before .before .before .before .before .before .before .before .before .before .before .before .before .before .before .before .before .pre .1 .1 .1 .0) in
-    let ready = (c .before .before .before .before .before .before .before .before .before .before .before .before .before .before .before .before .before .before .before .before .before .before .before .before .before .before .before .before .before .before .before .before .before .before .before .before .start .ensures) _ (given .lent .graph) (as-many given) (lent-is given) (given .past) (given .table-is) in
-    let timed = (c .before .before .before .before .before .before .before .before .before .before .before .before .before .before .before .before .before .before .first-times .ensures .1) _ (given .lent .graph) (given .lent .clocked) (given .lent .edges-are) in
-    let ordered = (c .before .before .before .before .before .before .before .before .before .before .before .before .before .before .before .before .before .before .first-times .ensures .0) _ (given .lent .graph) (given .lent .edges-are) in (
+    let given = (c .before .before .before .before .before .before .before .before .before .before .before .before .before .before .before .before .before .before .before .before .before .before .before .before .before .before .before .before .before .before .before .before .before .before .before .before .before .before .before .before .before .before .before .before .before .before .before .before .before .before .before .before .before .before .before .before .before .before .before .before .before .before .before .before .before .before .pre .1 .1 .1 .1 .1) in
+    let zeros = (c .before .before .before .before .before .before .before .before .before .before .before .before .before .before .before .before .before .before .before .before .before .before .before .before .before .before .before .before .before .before .before .before .before .before .before .before .before .before .before .before .before .before .before .before .before .before .before .before .before .before .before .before .before .before .before .before .before .before .before .before .before .before .before .before .before .before .pre .1 .1 .1 .0) in
+    let ready = (c .before .before .before .before .before .before .before .before .before .before .before .before .before .before .before .before .before .before .before .before .before .before .before .before .before .before .before .before .before .before .before .before .before .before .before .before .before .before .before .before .before .before .start .ensures) _ (given .lent .graph) (as-many given) (lent-is given) (given .past) (given .table-is) in
+    let timed = (c .before .before .before .before .before .before .before .before .before .before .before .before .before .before .before .before .before .before .before .before .before .before .first-times .ensures .1) _ (given .lent .graph) (given .lent .clocked) (given .lent .edges-are) in
+    let ordered = (c .before .before .before .before .before .before .before .before .before .before .before .before .before .before .before .before .before .before .before .before .before .before .first-times .ensures .0) _ (given .lent .graph) (given .lent .edges-are) in (
       graph-few given,
-      ((c .before .before .before .before .before .before .before .before .before .before .before .before .before .before .before .before .before .before .before .before .before .before .before .before .before .before .before .before .before .before .before .before .before .before .before .before .before .before .before .before .before .before .before .before .before .before .before .before .before .before .before .before .before .before .before .before .before .before .before .before .pre .1 .1 .0), (_, begun given ((c .before .before .before .before .before .before .before .before .before .before .before .before .before .before .before .before .before .before .first-times .last .1 .1 .1 .1 .1 .1 .1 .1 .1 .0)) ((c .before .before .before .before .before .before .before .before .before .before .before .before .before .before .before .before .before .before .first-times .last .1 .1 .1 .1 .1 .1 .1 .1 .1 .1 .0)) _ _ ready ordered timed)),
+      ((c .before .before .before .before .before .before .before .before .before .before .before .before .before .before .before .before .before .before .before .before .before .before .before .before .before .before .before .before .before .before .before .before .before .before .before .before .before .before .before .before .before .before .before .before .before .before .before .before .before .before .before .before .before .before .before .before .before .before .before .before .before .before .before .before .before .before .pre .1 .1 .0), (_, begun given ((c .before .before .before .before .before .before .before .before .before .before .before .before .before .before .before .before .before .before .before .before .before .before .first-times .last .1 .1 .1 .1 .1 .1 .1 .1 .1 .1 .1 .0)) ((c .before .before .before .before .before .before .before .before .before .before .before .before .before .before .before .before .before .before .before .before .before .before .first-times .last .1 .1 .1 .1 .1 .1 .1 .1 .1 .1 .1 .1 .0)) _ _ ready ordered timed)),
     )
 
 same-length-8 : tie.Need-same-length-8
-same-length-8 c = (c .before .before .before .before .before .before .before .before .before .before .before .before .before .before .before .before .before .before .before .before .before .follow-steps .kept .1 .1 .1 .1 .1 .0)
+same-length-8 c = (c .before .before .before .before .before .before .before .before .before .before .before .before .before .before .before .before .before .before .before .before .before .before .before .follow-steps .kept .1 .1 .1 .1 .1 .0)
 
 same-length-9 : tie.Need-same-length-9
-same-length-9 c = (c .before .before .before .before .before .before .before .before .before .before .before .before .before .before .before .before .before .before .before .before .before .follow-steps .kept .1 .1 .1 .1 .1 .1 .0)
+same-length-9 c = (c .before .before .before .before .before .before .before .before .before .before .before .before .before .before .before .before .before .before .before .before .before .before .before .follow-steps .kept .1 .1 .1 .1 .1 .1 .0)
 
 same-length-10 : tie.Need-same-length-10
-same-length-10 c = (c .before .before .before .before .before .before .before .before .before .before .before .before .before .before .before .before .before .before .before .before .before .follow-steps .kept .1 .1 .1 .1 .1 .1 .1 .0)
+same-length-10 c = (c .before .before .before .before .before .before .before .before .before .before .before .before .before .before .before .before .before .before .before .before .before .before .before .follow-steps .kept .1 .1 .1 .1 .1 .1 .1 .0)
 
 same-length-11 : tie.Need-same-length-11
-same-length-11 c = (c .before .before .before .before .before .before .before .before .before .before .before .before .before .before .before .before .before .before .before .before .before .before .before .before .before .before .before .before .before .before .before .before .before .before .before .before .before .before .before .before .before .before .before .before .before .before .before .before .before .before .before .before .before .before .before .before .before .before .start .kept .1 .1 .1 .1 .0)
+same-length-11 c = (c .before .before .before .before .before .before .before .before .before .before .before .before .before .before .before .before .before .before .before .before .before .before .before .before .before .before .before .before .before .before .before .before .before .before .before .before .before .before .before .before .before .before .before .before .before .before .before .before .before .before .before .before .before .before .before .before .before .before .before .before .before .before .before .before .before .before .start .kept .1 .1 .1 .1 .0)
 
 same-length-12 : tie.Need-same-length-12
-same-length-12 c = (c .before .before .before .before .before .before .before .before .before .before .before .before .before .before .before .before .before .before .before .before .before .follow-steps .kept .1 .1 .1 .1 .1 .1 .1 .1 .0) ∙ (c .before .before .before .before .before .before .before .before .before .before .before .before .before .before .before .before .before .before .before .before .before .before .before .before .before .before .before .before .before .before .before .before .before .before .before .before .before .before .before .before .before .before .before .before .before .before .before .before .before .before .before .before .before .before .before .before .before .before .start .kept .1 .1 .1 .1 .1 .0)
+same-length-12 c = (c .before .before .before .before .before .before .before .before .before .before .before .before .before .before .before .before .before .before .before .before .before .before .before .follow-steps .kept .1 .1 .1 .1 .1 .1 .1 .1 .0) ∙ (c .before .before .before .before .before .before .before .before .before .before .before .before .before .before .before .before .before .before .before .before .before .before .before .before .before .before .before .before .before .before .before .before .before .before .before .before .before .before .before .before .before .before .before .before .before .before .before .before .before .before .before .before .before .before .before .before .before .before .before .before .before .before .before .before .before .before .start .kept .1 .1 .1 .1 .1 .0)
 
 same-length-13 : tie.Need-same-length-13
-same-length-13 c = (c .before .before .before .before .before .before .before .before .before .before .before .before .before .before .before .before .before .before .before .before .before .follow-steps .kept .1 .1 .1 .1 .1 .1 .1 .1 .1 .0) ∙ (c .before .before .before .before .before .before .before .before .before .before .before .before .before .before .before .before .before .before .before .before .before .before .before .before .before .before .before .before .before .before .before .before .before .before .before .before .before .before .before .before .before .before .before .before .before .before .before .before .before .before .before .before .before .before .before .before .before .before .start .kept .1 .1 .1 .1 .1 .1 .0)
+same-length-13 c = (c .before .before .before .before .before .before .before .before .before .before .before .before .before .before .before .before .before .before .before .before .before .before .before .follow-steps .kept .1 .1 .1 .1 .1 .1 .1 .1 .1 .0) ∙ (c .before .before .before .before .before .before .before .before .before .before .before .before .before .before .before .before .before .before .before .before .before .before .before .before .before .before .before .before .before .before .before .before .before .before .before .before .before .before .before .before .before .before .before .before .before .before .before .before .before .before .before .before .before .before .before .before .before .before .before .before .before .before .before .before .before .before .start .kept .1 .1 .1 .1 .1 .1 .0)
 
 same-length-14 : tie.Need-same-length-14
-same-length-14 c = (c .before .before .before .before .before .before .before .before .before .before .before .before .before .before .before .before .before .before .before .before .before .follow-steps .kept .1 .1 .1 .1 .1 .1 .1 .1 .1 .1 .0) ∙ (c .before .before .before .before .before .before .before .before .before .before .before .before .before .before .before .before .before .before .before .before .before .before .before .before .before .before .before .before .before .before .before .before .before .before .before .before .before .before .before .before .before .before .before .before .before .before .before .before .before .before .before .before .before .before .before .before .before .before .start .kept .1 .1 .1 .1 .1 .1 .1 .0)
+same-length-14 c = (c .before .before .before .before .before .before .before .before .before .before .before .before .before .before .before .before .before .before .before .before .before .before .before .follow-steps .kept .1 .1 .1 .1 .1 .1 .1 .1 .1 .1 .0) ∙ (c .before .before .before .before .before .before .before .before .before .before .before .before .before .before .before .before .before .before .before .before .before .before .before .before .before .before .before .before .before .before .before .before .before .before .before .before .before .before .before .before .before .before .before .before .before .before .before .before .before .before .before .before .before .before .before .before .before .before .before .before .before .before .before .before .before .before .start .kept .1 .1 .1 .1 .1 .1 .1 .0)
 
 same-length-15 : tie.Need-same-length-15
-same-length-15 c = (c .before .before .before .before .before .before .before .before .before .before .before .before .before .before .before .before .before .before .before .before .before .follow-steps .kept .1 .1 .1 .1 .1 .1 .1 .1 .1 .1 .1 .0)
+same-length-15 c = (c .before .before .before .before .before .before .before .before .before .before .before .before .before .before .before .before .before .before .before .before .before .before .before .follow-steps .kept .1 .1 .1 .1 .1 .1 .1 .1 .1 .1 .1 .0)
 
 same-length-16 : tie.Need-same-length-16
-same-length-16 c = (c .before .before .before .before .before .before .before .before .before .before .before .before .before .before .before .before .before .before .before .before .before .follow-steps .kept .1 .1 .1 .1 .1 .1 .1 .1 .1 .1 .1 .1 .0)
+same-length-16 c = (c .before .before .before .before .before .before .before .before .before .before .before .before .before .before .before .before .before .before .before .before .before .before .before .follow-steps .kept .1 .1 .1 .1 .1 .1 .1 .1 .1 .1 .1 .1 .0)
 
 returns-2 : tie.Need-returns-2
 returns-2 c = λ g given.
-    let ready = (c .before .before .before .before .before .before .before .before .before .before .before .before .before .before .before .before .before .before .before .before .before .before .before .before .before .before .before .before .before .before .before .before .before .before .before .before .before .before .before .before .before .before .before .before .before .before .before .before .before .before .before .before .before .before .before .before .before .before .start .ensures) _ (given .lent .graph) (as-many given) (lent-is given) (given .past) (given .table-is) in
-    let timed = (c .before .before .before .before .before .before .before .before .before .before .before .before .before .before .before .before .before .before .before .before .before .before .before .before .before .before .before .before .before .before .before .before .before .before .before .before .before .before .before .before .first-times .ensures .1) _ (given .lent .graph) (given .lent .clocked) (given .lent .edges-are) in
-    let ordered = (c .before .before .before .before .before .before .before .before .before .before .before .before .before .before .before .before .before .before .before .before .before .before .before .before .before .before .before .before .before .before .before .before .before .before .before .before .before .before .before .before .first-times .ensures .0) _ (given .lent .graph) (given .lent .edges-are) in
-    (c .before .before .before .before .before .before .before .before .before .before .before .before .before .before .before .before .before .before .before .before .before .follow-steps .ensures) g (begun given ((c .before .before .before .before .before .before .before .before .before .before .before .before .before .before .before .before .before .before .before .before .before .before .before .before .before .before .before .before .before .before .before .before .before .before .before .before .before .before .before .before .first-times .last .1 .1 .1 .1 .1 .1 .1 .1 .1 .0)) ((c .before .before .before .before .before .before .before .before .before .before .before .before .before .before .before .before .before .before .before .before .before .before .before .before .before .before .before .before .before .before .before .before .before .before .before .before .before .before .before .before .first-times .last .1 .1 .1 .1 .1 .1 .1 .1 .1 .1 .0)) _ _ ready ordered timed)
+    let ready = (c .before .before .before .before .before .before .before .before .before .before .before .before .before .before .before .before .before .before .before .before .before .before .before .before .before .before .before .before .before .before .before .before .before .before .before .before .before .before .before .before .before .before .before .before .before .before .before .before .before .before .before .before .before .before .before .before .before .before .before .before .before .before .before .before .before .before .start .ensures) _ (given .lent .graph) (as-many given) (lent-is given) (given .past) (given .table-is) in
+    let timed = (c .before .before .before .before .before .before .before .before .before .before .before .before .before .before .before .before .before .before .before .before .before .before .before .before .before .before .before .before .before .before .before .before .before .before .before .before .before .before .before .before .before .before .before .before .before .before .first-times .ensures .1) _ (given .lent .graph) (given .lent .clocked) (given .lent .edges-are) in
+    let ordered = (c .before .before .before .before .before .before .before .before .before .before .before .before .before .before .before .before .before .before .before .before .before .before .before .before .before .before .before .before .before .before .before .before .before .before .before .before .before .before .before .before .before .before .before .before .before .before .first-times .ensures .0) _ (given .lent .graph) (given .lent .edges-are) in
+    (c .before .before .before .before .before .before .before .before .before .before .before .before .before .before .before .before .before .before .before .before .before .before .before .follow-steps .ensures) g (begun given ((c .before .before .before .before .before .before .before .before .before .before .before .before .before .before .before .before .before .before .before .before .before .before .before .before .before .before .before .before .before .before .before .before .before .before .before .before .before .before .before .before .before .before .before .before .before .before .first-times .last .1 .1 .1 .1 .1 .1 .1 .1 .1 .1 .1 .0)) ((c .before .before .before .before .before .before .before .before .before .before .before .before .before .before .before .before .before .before .before .before .before .before .before .before .before .before .before .before .before .before .before .before .before .before .before .before .before .before .before .before .before .before .before .before .before .before .first-times .last .1 .1 .1 .1 .1 .1 .1 .1 .1 .1 .1 .1 .0)) _ _ ready ordered timed)
 
 pub plan-from-spec : {M : Type 1} → statement M
 plan-from-spec =
@@ -222,6 +237,8 @@ plan-from-spec =
     slice-aggregate-first-times
     slice-aggregate-first-times-2
     slice-aggregate-first-times-3
+    slice-aggregate-first-times-4
+    slice-aggregate-first-times-5
     sub-first-times
     part-end-start
     part-end-end
@@ -232,6 +249,8 @@ plan-from-spec =
     slice-aggregate-follow-steps
     slice-aggregate-follow-steps-2
     slice-aggregate-follow-steps-3
+    slice-aggregate-follow-steps-4
+    slice-aggregate-follow-steps-5
     sub-follow-steps
     part-end-start-2
     part-end-end-2

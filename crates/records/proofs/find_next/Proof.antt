@@ -4,12 +4,16 @@ use Prim.Native.Nat.{ℕ, _+_, _-_, _≤_, _<_}
 use native.Mathlib.Omega.{arith}
 use lib.ListN.{length, getD}
 use Rattle.records.specs.Nexts.{FirstTasks, NextTasks}
-use Rattle.records.proofs.Nexts.{nexts-none, firsts-more, nexts-more}
+use Rattle.records.proofs.Nexts.{Told, firsts-none, told-none, nexts-none, firsts-more, told-more, nexts-more}
 use Rattle.records.proofs.find_next.Statement.{statement}
 use Rattle.records.proofs.find_next.Tie as tie
 
 abbrev Inv-loop : tie.InvT-loop
-Inv-loop processor next₀ first₀ v₀ next first v = (v ≤ length processor) × NextTasks processor v next × FirstTasks processor v first
+Inv-loop processor next₀ first₀ v₀ next first v =
+    (v ≤ length processor) ×
+    NextTasks processor v next ×
+    FirstTasks processor v first ×
+    Told processor first
 
 abbrev μ-loop : tie.MeasureT-loop
 μ-loop processor next₀ first₀ v₀ next first v = v
@@ -17,7 +21,7 @@ abbrev μ-loop : tie.MeasureT-loop
 loop-holds : tie.Need-loop-holds Inv-loop μ-loop
 loop-holds c =
     let processor = c .args .processor .now in
-    (omega arith, nexts-none processor (c .pre .0 .1), c .pre .1)
+    (omega arith, nexts-none processor (c .pre .0 .1), firsts-none processor (c .pre .0 .0) (c .pre .1), told-none processor (c .pre .1))
 
 sub-v : tie.Need-sub-v Inv-loop μ-loop
 sub-v c = omega arith
@@ -51,14 +55,18 @@ loop-again c =
     let processor = start .args .processor .now in
     let number : c .before .before .before .loop .v ≡ v + 1 = omega arith in
     let below : v < length processor = omega arith in
-    let small : getD processor v 0 < 256 = omega (arith, c .before .shared-slice-known .given v) in
-    (omega arith, nexts-more number below small (omega (arith, start .pre .0 .0)) (inv .2) (inv .1), firsts-more number below small (inv .2))
+    let small : getD processor v 0 < 256 = omega (arith, c .before .shared-slice-known .given v) in (
+      omega arith,
+      nexts-more number below small (inv .2) (inv .3) (inv .1),
+      firsts-more number below small (inv .2),
+      told-more number below small (inv .2 .room) (inv .3),
+    )
 
 same-length : tie.Need-same-length Inv-loop μ-loop
 same-length c = c .before .loop .inv .1 .room ∙ sym (c .before .before .pre .0 .1)
 
 same-length-2 : tie.Need-same-length-2 Inv-loop μ-loop
-same-length-2 c = c .before .loop .inv .2 .room ∙ sym (c .before .before .pre .1 .room)
+same-length-2 c = c .before .loop .inv .2 .room ∙ sym (firsts-none (c .before .before .args .processor .now) (c .before .before .pre .0 .0) (c .before .before .pre .1) .room)
 
 returns : tie.Need-returns Inv-loop μ-loop
 returns c =

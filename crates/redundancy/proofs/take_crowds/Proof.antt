@@ -10,7 +10,7 @@ use Rattle.redundancy.proofs.take_crowds.Tie as tie
 
 abbrev Inv-loop : tie.InvT-loop
 Inv-loop source sink delay table tasks head link degree rows₀ seconds₀ used₀ s₀ rows seconds used s =
-    (s ≤ tasks) × (used ≤ 13) × CrowdsSoFar source sink delay used rows seconds
+    (s ≤ tasks) × (used ≤ 20) × CrowdsSoFar source sink delay used rows seconds
 
 abbrev μ-loop : tie.MeasureT-loop
 μ-loop source sink delay table tasks head link degree rows₀ seconds₀ used₀ s₀ rows seconds used s = tasks - s
@@ -67,7 +67,7 @@ loop-again c =
     let args = start inner .args in
     let loop = inner .before .loop in
     let done = loop .inv .2 in
-    let step : (c .if1 .used ≤ 13) × CrowdsSoFar (args .source .now) (args .sink .now) (args .delay .now) (c .if1 .used) (c .if1 .rows) (c .if1 .seconds) =
+    let step : (c .if1 .used ≤ 20) × CrowdsSoFar (args .source .now) (args .sink .now) (args .delay .now) (c .if1 .used) (c .if1 .rows) (c .if1 .seconds) =
     ⊎-elim
     (λ w.
     rw (w .6, w .7, w .8) (omega (arith, w .1 .taken), crowds-more (start inner .pre .1 .0) done (loop .s) (small inner) (w .3 .ensures)))
@@ -78,12 +78,12 @@ loop-again c =
 same-length : tie.Need-same-length Inv-loop μ-loop
 same-length c =
     let asked = c .before .before .before .before .before .before .before .before .before .before .before .pre .0 in
-    c .before .loop .inv .2 .crowds .tasks ∙ sym (ap length (asked .1) ∙ length-replicate {A = ℕ} 64 13)
+    c .before .loop .inv .2 .crowds .tasks ∙ sym (ap length (asked .1) ∙ length-replicate {A = ℕ} 64 20)
 
 same-length-2 : tie.Need-same-length-2 Inv-loop μ-loop
 same-length-2 c =
     let asked = c .before .before .before .before .before .before .before .before .before .before .before .pre .0 in
-    c .before .loop .inv .2 .size ∙ sym (ap length (asked .2) ∙ length-replicate {A = ℕ} 832 16383)
+    c .before .loop .inv .2 .size ∙ sym (ap length (asked .2) ∙ length-replicate {A = ℕ} 1280 16383)
 
 returns : tie.Need-returns Inv-loop μ-loop
 returns c = c .before .loop .inv .2 .crowds

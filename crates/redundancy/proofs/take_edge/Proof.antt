@@ -27,7 +27,7 @@ begin c = c .before .before .before .before .before .before .before
 -- the edge's sink has an entry in each row
 own-place : (c : tie.Start Inv-loop μ-loop) →
     (c .args .next < length (c .args .least .now)) × (c .args .at + c .args .next < length (c .args .seconds .now))
-    × (c .args .at + c .args .next < 832) × (c .args .next < 64) × (c .args .next * c .args .tasks ≤ 4096)
+    × (c .args .at + c .args .next < 1280) × (c .args .next < 64) × (c .args .next * c .args .tasks ≤ 4096)
 own-place c =
     let asked = c .pre in
     let inside : c .args .next < 64 = omega arith in
@@ -36,7 +36,7 @@ own-place c =
 -- also after the loop
 own-place-still : (c : tie.After-loop Inv-loop μ-loop) →
     (begin c .args .next < length (c .before .loop .least)) × (begin c .args .at + begin c .args .next < length (c .before .loop .seconds))
-    × (begin c .args .at + begin c .args .next < 832) × (begin c .args .next < 64)
+    × (begin c .args .at + begin c .args .next < 1280) × (begin c .args .next < 64)
 own-place-still c =
     let room = own-place (begin c) in
     let size = c .before .loop .inv .1 .size in
@@ -47,7 +47,7 @@ own-place-still c =
 places : (c : tie.In-loop Inv-loop μ-loop) →
     (c .before .loop .b < length (c .before .loop .least)) × (start c .args .at + c .before .loop .b < length (c .before .loop .seconds))
     × (start c .args .next * start c .args .tasks + c .before .loop .b < length (start c .args .table .now))
-    × (start c .args .at + c .before .loop .b < 832) × (c .before .loop .b < 64)
+    × (start c .args .at + c .before .loop .b < 1280) × (c .before .loop .b < 64)
     × (start c .args .next * start c .args .tasks + c .before .loop .b < 4096)
 places c =
     let asked = start c .pre in
@@ -57,6 +57,17 @@ places c =
     let within = place-within tasks tasks (start c .args .next) (c .before .loop .b) (asked .0 .1) (c .loop-test .taken) in
     let small = product-small tasks tasks (asked .0 .0) (asked .0 .0) in
     (omega (arith, asked), omega (arith, asked), omega (arith, asked), omega (arith, asked), omega (arith, asked), omega (arith, asked))
+
+-- its numbers are as they were, and small
+low : (c : tie.In-loop Inv-loop μ-loop) →
+    (getD (c .before .loop .least) (c .before .loop .b) 0 ≤ 16383) × (getD (c .before .loop .seconds) (start c .args .at + c .before .loop .b) 0 ≤ 16383)
+low c =
+    let b = c .before .loop .b in
+    let at = start c .args .at in
+    let small = start c .pre .1 .1 b (c .loop-test .taken) in
+    let first = part-next (c .before .loop .inv .1) b (omega arith) in
+    let second = part-next (c .before .loop .inv .2) (at + b) refl in
+    (omega (arith, small .0, first), omega (arith, small .1, second))
 
 mul-start : tie.Need-mul-start Inv-loop μ-loop
 mul-start c = let room = own-place (c .before .before .before) in omega arith
@@ -100,26 +111,32 @@ lesser-requires c κs = search needs
 add-sum : tie.Need-add-sum Inv-loop μ-loop
 add-sum c = omega (arith, start (c .before .before) .pre .0 .3, c .lesser .ensures)
 
-add-lesser-2 : tie.Need-add-lesser-2 Inv-loop μ-loop
-add-lesser-2 c = let room = places (c .before .before) in omega arith
+add-nearer : tie.Need-add-nearer Inv-loop μ-loop
+add-nearer c = let room = places (c .before .before) in omega arith
 
-mul-lesser-2 : tie.Need-mul-lesser-2 Inv-loop μ-loop
-mul-lesser-2 c = let room = places (c .before .before) in omega arith
+mul-nearer : tie.Need-mul-nearer Inv-loop μ-loop
+mul-nearer c = let room = places (c .before .before) in omega arith
 
-slice-read-lesser : tie.Need-slice-read-lesser Inv-loop μ-loop
-slice-read-lesser c = let room = places (c .before .before .before) in omega arith
+slice-read-nearer : tie.Need-slice-read-nearer Inv-loop μ-loop
+slice-read-nearer c = let room = places (c .before .before .before) in omega arith
 
-mul-greater : tie.Need-mul-greater Inv-loop μ-loop
-mul-greater c = let room = places (c .before .before .before) in omega arith
+mul-further : tie.Need-mul-further Inv-loop μ-loop
+mul-further c = let room = places (c .before .before .before) in omega arith
 
-slice-read-greater : tie.Need-slice-read-greater Inv-loop μ-loop
-slice-read-greater c = let room = places (c .before .before .before .before) in omega arith
+slice-read-further : tie.Need-slice-read-further Inv-loop μ-loop
+slice-read-further c = let room = places (c .before .before .before .before) in omega arith
 
-greater-requires : tie.Need-greater-requires Inv-loop μ-loop
-greater-requires c κs = search needs
+further-requires : tie.Need-further-requires Inv-loop μ-loop
+further-requires c κs =
+    let inner = c .before .before .before .before in
+    let small = low inner in
+    (omega (arith, small .0), omega (arith, start inner .pre .0 .3, c .before .before .lesser .ensures))
 
-lesser-requires-2 : tie.Need-lesser-requires-2 Inv-loop μ-loop
-lesser-requires-2 c κs = search needs
+nearer-requires : tie.Need-nearer-requires Inv-loop μ-loop
+nearer-requires c κs =
+    let inner = c .before .before .before .before .before in
+    let small = low inner in
+    (omega (arith, small .1), omega (arith, small .0, c .further .ensures, start inner .pre .0 .3, c .before .before .before .lesser .ensures))
 
 add-seconds : tie.Need-add-seconds Inv-loop μ-loop
 add-seconds c = let room = places (c .before .before .before .before .before .before) in omega arith
@@ -130,14 +147,17 @@ mul-seconds c = let room = places (c .before .before .before .before .before .be
 slice-write-seconds : tie.Need-slice-write-seconds Inv-loop μ-loop
 slice-write-seconds c = let room = places (c .before .before .before .before .before .before) in omega arith
 
-mul-lesser-3 : tie.Need-mul-lesser-3 Inv-loop μ-loop
-mul-lesser-3 c = let room = places (c .before .before .before .before .before .before) in omega arith
+mul-nearer-2 : tie.Need-mul-nearer-2 Inv-loop μ-loop
+mul-nearer-2 c = let room = places (c .before .before .before .before .before .before) in omega arith
 
-slice-read-lesser-2 : tie.Need-slice-read-lesser-2 Inv-loop μ-loop
-slice-read-lesser-2 c = let room = places (c .before .before .before .before .before .before .before) in omega arith
+slice-read-nearer-2 : tie.Need-slice-read-nearer-2 Inv-loop μ-loop
+slice-read-nearer-2 c = let room = places (c .before .before .before .before .before .before .before) in omega arith
 
-lesser-requires-3 : tie.Need-lesser-requires-3 Inv-loop μ-loop
-lesser-requires-3 c κs = search needs
+nearer-requires-2 : tie.Need-nearer-requires-2 Inv-loop μ-loop
+nearer-requires-2 c κs =
+    let inner = c .before .before .before .before .before .before .before in
+    let small = low inner in
+    (omega (arith, small .0), omega (arith, start inner .pre .0 .3, c .before .before .before .before .before .lesser .ensures))
 
 mul-least : tie.Need-mul-least Inv-loop μ-loop
 mul-least c = let room = places (c .before .before .before .before .before .before .before .before) in omega arith
@@ -164,20 +184,20 @@ loop-again c =
     let second-is : getD (loop .seconds) (args .at + b) 0 ≡ getD (args .seconds .now) (args .at + b) 0 =
     part-next (loop .inv .2) (args .at + b) refl in (
       omega arith,
-      part-more (loop .inv .1) b (c .lesser3 .result) (omega arith) (omega arith)
-          (c .lesser3 .ensures ∙ (ap (λ (x : ℕ). min (getD (loop .least) b 0) x) sum-is ∙ ap (λ (x : ℕ). min x sum) least-is)),
-      part-more (loop .inv .2) (args .at + b) (c .before .before .lesser2 .result) refl (omega arith)
-          (c .before .before .lesser2 .ensures ∙
+      part-more (loop .inv .1) b (c .nearer2 .result) (omega arith) (omega arith)
+          (c .nearer2 .ensures ∙ (ap (λ (x : ℕ). min (getD (loop .least) b 0) x) sum-is ∙ ap (λ (x : ℕ). min x sum) least-is)),
+      part-more (loop .inv .2) (args .at + b) (c .before .before .nearer .result) refl (omega arith)
+          (c .before .before .nearer .ensures ∙
           (ap (λ (x : ℕ). min (getD (loop .seconds) (args .at + b) 0) x)
-          (c .before .before .before .greater .ensures ∙ (ap (λ (x : ℕ). max (getD (loop .least) b 0) x) sum-is ∙ ap (λ (x : ℕ). max x sum) least-is)) ∙
+          (c .before .before .before .further .ensures ∙ (ap (λ (x : ℕ). max (getD (loop .least) b 0) x) sum-is ∙ ap (λ (x : ℕ). max x sum) least-is)) ∙
           ap (λ (x : ℕ). min x (max (getD (args .least .now) b 0) sum)) second-is)),
     )
 
-greater-requires-2 : tie.Need-greater-requires-2 Inv-loop μ-loop
-greater-requires-2 c κs = search needs
+greater-requires : tie.Need-greater-requires Inv-loop μ-loop
+greater-requires c κs = search needs
 
-lesser-requires-4 : tie.Need-lesser-requires-4 Inv-loop μ-loop
-lesser-requires-4 c κs = search needs
+lesser-requires-2 : tie.Need-lesser-requires-2 Inv-loop μ-loop
+lesser-requires-2 c κs = search needs
 
 add-seconds-2 : tie.Need-add-seconds-2 Inv-loop μ-loop
 add-seconds-2 c = let room = own-place-still (c .before .before) in omega arith
@@ -188,8 +208,8 @@ mul-seconds-2 c = let room = own-place-still (c .before .before) in omega arith
 slice-write-seconds-2 : tie.Need-slice-write-seconds-2 Inv-loop μ-loop
 slice-write-seconds-2 c = let room = own-place-still (c .before .before) in omega arith
 
-lesser-requires-5 : tie.Need-lesser-requires-5 Inv-loop μ-loop
-lesser-requires-5 c κs = search needs
+lesser-requires-3 : tie.Need-lesser-requires-3 Inv-loop μ-loop
+lesser-requires-3 c κs = search needs
 
 mul-least-2 : tie.Need-mul-least-2 Inv-loop μ-loop
 mul-least-2 c = let room = own-place-still (c .before .before .before) in omega arith
@@ -200,13 +220,13 @@ slice-write-least-2 c = let room = own-place-still (c .before .before .before) i
 same-length : tie.Need-same-length Inv-loop μ-loop
 same-length c =
     let loop = c .before .before .before .before .loop in
-    length-set (loop .least) (begin (c .before .before .before) .args .next) (c .lesser5 .result) ∙ loop .inv .1 .size
+    length-set (loop .least) (begin (c .before .before .before) .args .next) (c .lesser3 .result) ∙ loop .inv .1 .size
 
 same-length-2 : tie.Need-same-length-2 Inv-loop μ-loop
 same-length-2 c =
     let args = begin (c .before .before .before) .args in
     let loop = c .before .before .before .before .loop in
-    length-set (loop .seconds) (args .at + args .next) (c .before .lesser4 .result) ∙ loop .inv .2 .size
+    length-set (loop .seconds) (args .at + args .next) (c .before .lesser2 .result) ∙ loop .inv .2 .size
 
 returns : tie.Need-returns Inv-loop μ-loop
 returns c =
@@ -220,8 +240,8 @@ returns c =
     let second : ℕ → ℕ = secondWith (args .table .now) first (args .way) (args .at) (args .least .now) (args .seconds .now) in
     let highs : PartDone (args .at) (args .tasks) second (args .seconds .now) (loop .seconds) =
     subst (λ (k : ℕ). PartDone (args .at) k second (args .seconds .now) (loop .seconds)) whole (loop .inv .2) in
-    edge-taken (asked .0 .0) (asked .0 .1) (asked .1 .0) (asked .1 .1) lows highs (c .lesser5 .result) (c .before .lesser4 .result) (c .lesser5 .ensures)
-    (c .before .lesser4 .ensures ∙ ap (λ (x : ℕ). min (getD (args .seconds .now) (args .at + args .next) 0) x) (c .before .before .greater2 .ensures))
+    edge-taken (asked .0 .0) (asked .0 .1) (asked .1 .0 .0) (asked .1 .0 .1) lows highs (c .lesser3 .result) (c .before .lesser2 .result) (c .lesser3 .ensures)
+    (c .before .lesser2 .ensures ∙ ap (λ (x : ℕ). min (getD (args .seconds .now) (args .at + args .next) 0) x) (c .before .before .greater .ensures))
 
 pub take-edge-spec : {M : Type 1} → statement M
 take-edge-spec =
@@ -241,30 +261,30 @@ take-edge-spec =
     shared-slice-read-lesser
     lesser-requires
     add-sum
-    add-lesser-2
-    mul-lesser-2
-    slice-read-lesser
-    mul-greater
-    slice-read-greater
-    greater-requires
-    lesser-requires-2
+    add-nearer
+    mul-nearer
+    slice-read-nearer
+    mul-further
+    slice-read-further
+    further-requires
+    nearer-requires
     add-seconds
     mul-seconds
     slice-write-seconds
-    mul-lesser-3
-    slice-read-lesser-2
-    lesser-requires-3
+    mul-nearer-2
+    slice-read-nearer-2
+    nearer-requires-2
     mul-least
     slice-write-least
     add-b
     loop-less
     loop-again
-    greater-requires-2
-    lesser-requires-4
+    greater-requires
+    lesser-requires-2
     add-seconds-2
     mul-seconds-2
     slice-write-seconds-2
-    lesser-requires-5
+    lesser-requires-3
     mul-least-2
     slice-write-least-2
     same-length

@@ -14,7 +14,7 @@ use Rattle.redundancy.proofs.take_row.Tie as tie
 
 abbrev Inv-loop : tie.InvT-loop
 Inv-loop source sink delay table tasks head link s at seconds₀ least₀ i₀ seconds least i =
-    (i ≤ length source) × (i < length source → getD source i 0 ≡ s) × RowSoFar source sink delay s at i seconds₀ least seconds
+    (i ≤ length source) × (i < length source → getD source i 0 ≡ s) × RowSoFar tasks source sink delay s at i seconds₀ least seconds
 
 abbrev μ-loop : tie.MeasureT-loop
 μ-loop source sink delay table tasks head link s at seconds₀ least₀ i₀ seconds least i = length source - i
@@ -34,7 +34,7 @@ next-out c =
 -- the edge's sink has a place in the row
 place : (c : tie.In-loop Inv-loop μ-loop) →
     (start c .args .at + getD (start c .args .sink .now) (c .before .loop .i) 0 < length (c .before .loop .seconds))
-    × (start c .args .at + getD (start c .args .sink .now) (c .before .loop .i) 0 < 832)
+    × (start c .args .at + getD (start c .args .sink .now) (c .before .loop .i) 0 < 1280)
 place c =
     let asked = start c .pre in
     let ends = ends-below (asked .1 .0) (c .before .loop .i) (c .loop-test .taken) in
@@ -89,7 +89,7 @@ take-edge-requires c κs =
     let so-far = inner .before .loop .inv .2 in
     let size = so-far .size in (
       (asked .1 .0 .few, ends-below (asked .1 .0) i (inner .loop-test .taken) .1, entries (asked .1 .0), short (asked .1 .0) i (inner .loop-test .taken)),
-      (so-far .least-size, omega (arith, asked .0), omega (arith, asked .0)),
+      ((so-far .least-size, omega (arith, asked .0), omega (arith, asked .0)), so-far .low),
     )
 
 mul-i-2 : tie.Need-mul-i-2 Inv-loop μ-loop
@@ -119,7 +119,7 @@ loop-again c =
     let next = getD (args .link .now) (loop .i) 0 in
     let joined = c .before .if1 in
     let so-far :
-    RowSoFar (args .source .now) (args .sink .now) (args .delay .now) (args .s) (args .at) next (args .seconds .now) (joined .least) (joined .seconds) =
+    RowSoFar (args .tasks) (args .source .now) (args .sink .now) (args .delay .now) (args .s) (args .at) next (args .seconds .now) (joined .least) (joined .seconds) =
     ⊎-elim (λ w. rw (w .7, w .8) (row-more tabled (args .s) (args .at) (loop .inv .2) inside from (w .3 .ensures) out))
     (λ w. rw (w .1, w .2) (row-same tabled (args .s) (args .at) (loop .inv .2) inside from (w .0 .left) out)) (joined .came) in
     (out .inside, out .found, so-far)

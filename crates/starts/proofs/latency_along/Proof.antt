@@ -14,9 +14,8 @@ use Rattle.model.specs.Compute.{zeroCycle, earliest, latency}
 use Rattle.records.specs.Columns.{edgesOf, zeros, at}
 use Rattle.starts.specs.Starts.{turnRow}
 use Rattle.starts.proofs.Limits.{end-as-u32}
-use Rattle.starts.proofs.Turns.{Ready, end-fits, row-in-front, none-ended}
+use Rattle.starts.proofs.Turns.{Ready, end-fits, row-in-front}
 use Rattle.starts.proofs.Fronts.{front-room, front-length}
-use Rattle.starts.proofs.Later.{none-late}
 use Rattle.starts.proofs.latency_along.Statement.{statement}
 use Rattle.starts.proofs.latency_along.Tie as tie
 
@@ -26,20 +25,22 @@ ready s =
     let asked = s .pre .1 .1 in
     record { bounds = asked .1 .1 .0; none = asked .1 .1 .1 .0; sized = refl; file = asked .1 .1 .1 .1; few = asked .1 .0 .0 }
 
+abbrev start : tie.After-turn-starts → tie.Start
+start t = t .before .before .before .before .before .before .before .before .before .before
+
 -- the output's start in the list of starts with the first turn at its front
 first-start : (t : tie.After-turn-starts) (rest : List ℕ) →
-    let start = t .before .before .before .before .before .before .before .before .before .before .before .before .before .before .before .before in
-    at (t .turn-starts .last .1 .1 .1 .1 .1 .1 .1 .1 .1 .1 .1 .1 .1 .0 ++ rest) (start .args .output) ≡
-    earliest (length (start .args .time .now)) (edgesOf (start .args .source .now) (start .args .sink .now) (start .args .delay .now))
-    (estimates (at (start .args .time .now))) (start .args .output) 1
+    at (t .turn-starts .last .1 .1 .1 .1 .1 .1 .1 .1 .0 ++ rest) (start t .args .output) ≡
+    earliest (length (start t .args .time .now)) (edgesOf (start t .args .source .now) (start t .args .sink .now) (start t .args .delay .now))
+    (estimates (at (start t .args .time .now))) (start t .args .output) 1
 unfolding zeros
 first-start t rest =
-    let start = t .before .before .before .before .before .before .before .before .before .before .before .before .before .before .before .before in
-    let es = edgesOf (start .args .source .now) (start .args .sink .now) (start .args .delay .now) in
-    let time = at (start .args .time .now) in
-    let width = front-length 64 0 (t .before .before .before .before .before .before .before .before .before .no-starts .ensures) (start .pre .1 .1 .1 .0 .0) in
-    row-in-front (length (start .args .time .now)) es time 1 (t .turn-starts .ensures ∙ ap (λ (m : ℕ). turnRow m es time 1) width) rest
-    (start .args .output) (start .pre .1 .1 .1 .0 .1)
+    let s = start t in
+    let es = edgesOf (s .args .source .now) (s .args .sink .now) (s .args .delay .now) in
+    let time = at (s .args .time .now) in
+    let width = front-length 64 0 (t .before .before .before .no-starts .ensures) (s .pre .1 .1 .1 .0 .0) in
+    row-in-front (length (s .args .time .now)) es time 1 (t .turn-starts .ensures ∙ ap (λ (m : ℕ). turnRow m es time 1) width) rest
+    (s .args .output) (s .pre .1 .1 .1 .0 .1)
 
 no-starts-requires : tie.Need-no-starts-requires
 no-starts-requires c κs = search needs
@@ -47,52 +48,31 @@ no-starts-requires c κs = search needs
 sub-turn-starts : tie.Need-sub-turn-starts
 sub-turn-starts c = search needs
 
-part-turn-starts-start : tie.Need-part-turn-starts-start
-part-turn-starts-start c = search needs
-
-part-turn-starts-end : tie.Need-part-turn-starts-end
-part-turn-starts-end c = search needs
-
-sub-turn-starts-2 : tie.Need-sub-turn-starts-2
-sub-turn-starts-2 c = search needs
-
 part-start-start : tie.Need-part-start-start
 part-start-start c = search needs
 
 part-start-end : tie.Need-part-start-end
 unfolding zeros
-part-start-end c =
-    let start = c .before .before .before .before .before .before .before .before .before .before .before .before .before .before in
-    front-room 64 0 (c .before .before .before .before .before .before .before .no-starts .ensures) (start .pre .1 .1 .1 .0 .0)
+part-start-end c = front-room 64 0 (c .before .no-starts .ensures) (c .before .before .before .before .before .before .before .before .pre .1 .1 .1 .0 .0)
 
 turn-starts-requires : tie.Need-turn-starts-requires
 unfolding zeros
 turn-starts-requires c κs =
-    let start = c .before .before .before .before .before .before .before .before .before .before .before .before .before .before .before in
-    let blank = c .before .before .before .before .before .before .before .before .no-starts .ensures in
-    let given = start .pre in
+    let s = c .before .before .before .before .before .before .before .before .before in
+    let given = s .pre in
     let asked = given .1 .1 in
-    let es = edgesOf (start .args .source .now) (start .args .sink .now) (start .args .delay .now) in
-    let same = sym (front-length 64 0 blank (asked .1 .0 .0)) in (
+    let es = edgesOf (s .args .source .now) (s .args .sink .now) (s .args .delay .now) in
+    let same = sym (front-length 64 0 (c .before .before .no-starts .ensures) (asked .1 .0 .0)) in (
       given .0,
       (
         given .1 .0,
         (
-          given .1 .1 .0,
+          asked .0,
           (
-            (refl, refl),
+            (same, subst (λ (m : ℕ). m ≤ 64) same (asked .1 .0 .0)),
             (
-              none-late es _ _ _ refl,
-              (
-                (same, subst (λ (m : ℕ). m ≤ 64) same (asked .1 .0 .0)),
-                (
-                  (omega arith, omega arith),
-                  (
-                    subst (λ (m : ℕ). Ends m es) same (asked .1 .1 .0),
-                    (subst (λ (m : ℕ). zeroCycle m es ≡ false) same (asked .1 .1 .1 .0), (asked .1 .1 .1 .1, none-ended _ es (at (start .args .time .now)) _)),
-                  ),
-                ),
-              ),
+              subst (λ (m : ℕ). Ends m es) same (asked .1 .1 .0),
+              (subst (λ (m : ℕ). zeroCycle m es ≡ false) same (asked .1 .1 .1 .0), asked .1 .1 .1 .1),
             ),
           ),
         ),
@@ -117,42 +97,15 @@ cast-result c = fits-widen tt (c .shared-slice-known7 .given _)
 add-result : tie.Need-add-result
 unfolding at
 add-result c =
-    let start = c .before .before .before .before .before .before .before .before .before .before .before .before .before .before .before .before .before .before in
-    let end = end-fits (ready start) (le-refl 1) (omega arith) (start .args .output) (start .pre .1 .1 .1 .0 .1) in
+    let s = c .before .before .before .before .before .before .before .before .before .before .before .before in
+    let end = end-fits (ready s) (le-refl 1) (omega arith) (s .args .output) (s .pre .1 .1 .1 .0 .1) in
     end-as-u32 (subst (λ (x : ℕ). x ≤ 268435456) (sym (first-start (c .before .before) _)) (omega arith)) (c .shared-slice-known7 .given _)
 
 returns : tie.Need-returns
 unfolding at latency
 returns c =
-    let start = c .before .before .before .before .before .before .before .before .before .before .before .before .before .before .before .before .before .before in
-    ap (λ (x : ℕ). x + at (start .args .time .now) (start .args .output)) (first-start (c .before .before) _)
-
-part-turn-starts-start-2 : tie.Need-part-turn-starts-start-2
-part-turn-starts-start-2 c = search needs
-
-part-turn-starts-end-2 : tie.Need-part-turn-starts-end-2
-part-turn-starts-end-2 c = search needs
-
-sub-turn-starts-3 : tie.Need-sub-turn-starts-3
-sub-turn-starts-3 c = search needs
-
-part-turn-starts-start-3 : tie.Need-part-turn-starts-start-3
-part-turn-starts-start-3 c = search needs
-
-part-turn-starts-end-3 : tie.Need-part-turn-starts-end-3
-part-turn-starts-end-3 c = search needs
-
-sub-turn-starts-4 : tie.Need-sub-turn-starts-4
-sub-turn-starts-4 c = search needs
-
-part-turn-starts-start-4 : tie.Need-part-turn-starts-start-4
-part-turn-starts-start-4 c = search needs
-
-part-turn-starts-end-4 : tie.Need-part-turn-starts-end-4
-part-turn-starts-end-4 c = search needs
-
-sub-turn-starts-5 : tie.Need-sub-turn-starts-5
-sub-turn-starts-5 c = search needs
+    let s = c .before .before .before .before .before .before .before .before .before .before .before .before in
+    ap (λ (x : ℕ). x + at (s .args .time .now) (s .args .output)) (first-start (c .before .before) _)
 
 pub latency-along-spec : {M : Type 1} → statement M
 latency-along-spec =
@@ -160,18 +113,6 @@ latency-along-spec =
     (tie.spec
     no-starts-requires
     sub-turn-starts
-    part-turn-starts-start
-    part-turn-starts-end
-    sub-turn-starts-2
-    part-turn-starts-start-2
-    part-turn-starts-end-2
-    sub-turn-starts-3
-    part-turn-starts-start-3
-    part-turn-starts-end-3
-    sub-turn-starts-4
-    part-turn-starts-start-4
-    part-turn-starts-end-4
-    sub-turn-starts-5
     part-start-start
     part-start-end
     turn-starts-requires

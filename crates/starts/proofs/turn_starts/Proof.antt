@@ -1,59 +1,51 @@
--- `starts::turn_starts` meets its contract: the cleared row is as long as the row was, and holds 0.
+-- `starts::turn_starts` meets its contract: the cleared row, for which nothing is to wait, raised until every edge of delay 0 is kept, as little as
+-- possible, is that of the earliest run, which is far below the limit.
 use mathlib.Core.Path.{_≡_, sym, ap, subst, _∙_}
-use mathlib.Core.Bool.{false}
-use Prim.Native.Nat.{ℕ, _≤_}
+use Prim.Native.Nat.{ℕ}
+use native.Mathlib.Nat.{le-refl}
+use native.Mathlib.Omega.{arith}
 use lib.ListN.{length}
 use borrow.Author.Needs.{needs}
 use Rattle.model.specs.Tasks.{Ends}
-use Rattle.model.specs.Compute.{zeroCycle}
-use Rattle.records.specs.Columns.{edgesOf, zeros, at}
+use Rattle.records.specs.Columns.{edgesOf, at}
 use Rattle.records.proofs.Parts.{zeros-length}
-use Rattle.starts.specs.Starts.{EndedBefore, turnRow}
+use Rattle.starts.proofs.Turns.{Ready, waited-bounded, turn-row, none-ended, none-awaited}
 use Rattle.starts.proofs.turn_starts.Statement.{statement}
 use Rattle.starts.proofs.turn_starts.Tie as tie
 
-cleared-length : (k : tie.After-clear) → length (k .before .before .before .before .before .before .before .before .before .before .before .before .before .args .row .now) ≡ length (k .clear .last .0)
-cleared-length k = sym (ap length (k .clear .ensures) ∙ zeros-length (length (k .before .before .before .before .before .before .before .before .before .before .before .before .before .args .row .now)))
+ready : (s : tie.Start) →
+    Ready (length (s .args .row .now)) (edgesOf (s .args .source .now) (s .args .sink .now) (s .args .delay .now)) (s .args .time .now)
+ready s =
+    let asked = s .pre .1 .1 .1 in
+    record { bounds = asked .1 .0; none = asked .1 .1 .0; sized = asked .0 .0; file = asked .1 .1 .1; few = asked .0 .1 }
+
+abbrev start : tie.After-clear → tie.Start
+start k = k .before .before .before .before .before .before .before .before .before
+
+cleared-length : (k : tie.After-clear) → length (k .clear .last .0) ≡ length (start k .args .row .now)
+cleared-length k = ap length (k .clear .ensures) ∙ zeros-length (length (start k .args .row .now))
 
 clear-requires : tie.Need-clear-requires
 clear-requires c κs = search needs
 
-settle-turn-requires : tie.Need-settle-turn-requires
-settle-turn-requires c κs =
-    let start = c .before .before .before .before .before .before .before .before .before .before .before .before .before .before .before .before in
-    let given = start .pre in
-    let asked = given .1 .1 .1 .1 in
-    let es = edgesOf (start .args .source .now) (start .args .sink .now) (start .args .delay .now) in
-    let long = cleared-length (c .before .before .before) in (
+settle-along-requires : tie.Need-settle-along-requires
+settle-along-requires c κs =
+    let k = c .before .before .before in
+    let s = start k in
+    let given = s .pre in
+    let es = edgesOf (s .args .source .now) (s .args .sink .now) (s .args .delay .now) in
+    let n = length (s .args .row .now) in
+    let cleared = k .clear .last .0 in
+    let long = sym (cleared-length k) in (
       given .0,
       (
-        given .1 .0,
+        (given .1 .0 .0, given .1 .0 .1, ready s .sized ∙ long),
         (
-          given .1 .1 .0,
+          subst (λ (m : ℕ). Ends m es) long (ready s .bounds),
           (
-            given .1 .1 .1 .0,
-            (
-              asked .0,
-              (
-                (asked .1 .0 .0 ∙ long, subst (λ (m : ℕ). m ≤ 64) long (asked .1 .0 .1)),
-                (
-                  c .before .before .before .clear .ensures ∙ ap (λ (m : ℕ). zeros m) long,
-                  (
-                    asked .1 .1 .0,
-                    (
-                      subst (λ (m : ℕ). Ends m es) long (asked .1 .1 .1 .0),
-                      (
-                        subst (λ (m : ℕ). zeroCycle m es ≡ false) long (asked .1 .1 .1 .1 .0),
-                        (
-                          asked .1 .1 .1 .1 .1 .0,
-                          subst (λ (m : ℕ). EndedBefore m es (at (start .args .time .now)) (start .args .turn) (start .args .ended .now)) long (asked .1 .1 .1 .1 .1 .1),
-                        ),
-                      ),
-                    ),
-                  ),
-                ),
-              ),
-            ),
+            given .1 .1 .0,
+            waited-bounded (ready s) (le-refl 1) (omega arith) (none-ended n es (at (s .args .time .now))) cleared (k .clear .ensures)
+                (none-awaited (length cleared) es (at cleared)) (sym long),
           ),
         ),
       ),
@@ -64,10 +56,14 @@ same-length c = search needs
 
 returns : tie.Need-returns
 returns c =
-    let start = c .before .before .before .before .before .before .before .before .before .before .before .before .before .before .before .before .before .before .before in
-    let es = edgesOf (start .args .source .now) (start .args .sink .now) (start .args .delay .now) in
-    c .before .before .settle-turn .ensures ∙
-    ap (λ (m : ℕ). turnRow m es (at (start .args .time .now)) (start .args .turn)) (sym (cleared-length (c .before .before .before .before .before .before)))
+    let k = c .before .before .before .before .before .before in
+    let s = start k in
+    let es = edgesOf (s .args .source .now) (s .args .sink .now) (s .args .delay .now) in
+    let n = length (s .args .row .now) in
+    let cleared = k .clear .last .0 in
+    let settled = c .before .before .settle-along .ensures in
+    turn-row (ready s) (le-refl 1) (omega arith) (none-ended n es (at (s .args .time .now))) cleared (k .clear .ensures)
+    (none-awaited (length cleared) es (at cleared)) (settled .1) (cleared-length k) (settled .0)
 
 pub turn-starts-spec : {M : Type 1} → statement M
-turn-starts-spec = tie.close (tie.spec clear-requires settle-turn-requires same-length returns)
+turn-starts-spec = tie.close (tie.spec clear-requires settle-along-requires same-length returns)

@@ -1,79 +1,241 @@
--- `starts::turns_with` meets its contract: the turns so far stand in front of what the lists held, and each turn is made from the ends of those before it,
--- in a row that was cleared.
+-- `starts::turns_with` meets its contract: the turns so far stand in front of what the lists held, the edges that let the next turn wait are gathered, and
+-- each turn is made from the ends of those before it, in a row that was cleared.
 use mathlib.Core.Path.{_≡_, refl, sym, ap, subst, _∙_}
-use mathlib.Core.Bool.{false}
 use mathlib.Core.List.{List, _++_}
 use Prim.Native.Nat.{ℕ, _+_, _-_, _*_, _≤_, _<_}
 use native.Mathlib.Nat.{le-trans, le-add-right}
 use native.Mathlib.Omega.{arith}
-use lib.ListN.{length}
+use lib.ListN.{length, take, replicate}
 use borrow.Author.Needs.{needs}
 use borrow.Rule.Slice.PartMut.{midOf, putMid}
-use Rattle.model.specs.Tasks.{Ends}
-use Rattle.model.specs.Compute.{zeroCycle}
-use Rattle.records.specs.Columns.{edgesOf, zeros, at}
-use Rattle.starts.specs.Starts.{turnRow, turnRows}
-use Rattle.starts.proofs.Turns.{Ready, end-fits, row-length, row-at}
-use Rattle.starts.proofs.Filling.{Turned, put-length, Room, Cleared, cleared-front, turned-none, row-blank, turn-room, part-length, ended-before, ends-row, mid-put, turned-more, turned-all}
+use Rattle.model.specs.Tasks.{Edge, Ends}
+use Rattle.records.specs.Columns.{edgesOf, at}
 use Rattle.records.proofs.Rows.{product-small}
-use Rattle.order.proofs.Found.{front-length}
-use Rattle.starts.proofs.Later.{late-gathered}
+use Rattle.waits.specs.Chains.{Gathered, WaitsAt, Late}
+use Rattle.waits.proofs.Earlier.{late-inside}
+use Rattle.waits.proofs.Gathering.{gathered-none}
+use Rattle.passes.specs.Passes.{Bounded, Settled}
+use Rattle.starts.specs.Starts.{turnRow, turnRows}
+use Rattle.starts.proofs.Raised.{WaitEnsured}
+use Rattle.starts.proofs.Turns.{Ready, end-fits, waited-bounded, turn-row, row-length, row-at}
+use Rattle.starts.proofs.Filling.{Turned, put-length, put-twice, Room, Cleared, cleared-front, turned-none, row-blank, turn-room, part-length, ended-before, ends-row, mid-put, turned-more, turned-all}
+use Rattle.starts.proofs.Later.{late-room, late-front, late-front-sink, late-gathered}
 use Rattle.starts.proofs.turns_with.Statement.{statement}
 use Rattle.starts.proofs.turns_with.Tie as tie
 
 abbrev Inv-loop : tie.InvT-loop
-Inv-loop source sink delay time turns end₀ starts₀ tasks order-source order-sink count found late-source late-sink late-delay late at₀ turn₀ end starts place turn =
-    Turned (length time) (edgesOf source sink delay) (at time) turns starts₀ end₀ place turn starts end
+Inv-loop source sink delay time turns end₀ starts₀ tasks order-source order-sink count found none head link back₀ late-sink₀ late₀ at₀ turn₀ end starts back late-sink late place turn =
+    Turned (length time) (edgesOf source sink delay) (at time) turns starts₀ end₀ place turn starts end ×
+    Gathered source sink delay (length time) (WaitsAt delay turn) back late-sink late
 
 abbrev μ-loop : tie.MeasureT-loop
-μ-loop source sink delay time turns end₀ starts₀ tasks order-source order-sink count found late-source late-sink late-delay late at₀ turn₀ end starts place turn = turns + 1 - turn
+μ-loop source sink delay time turns end₀ starts₀ tasks order-source order-sink count found none head link back₀ late-sink₀ late₀ at₀ turn₀ end starts back late-sink late place turn =
+    turns + 1 - turn
 
-zero-order-requires : tie.Need-zero-order-requires Inv-loop μ-loop
-zero-order-requires c κs = let asked = c .before .before .before .before .before .before .pre in (asked .0, (asked .1 .1 .0 .0, asked .1 .1 .1 .0))
+abbrev edges : tie.Start Inv-loop μ-loop → List Edge
+edges s = edgesOf (s .args .source .now) (s .args .sink .now) (s .args .delay .now)
+
+ready : (s : tie.Start Inv-loop μ-loop) → Ready (length (s .args .time .now)) (edges s) (s .args .time .now)
+ready s =
+    let asked = s .pre .1 .1 in
+    record { bounds = asked .1 .0; none = asked .1 .1 .0; sized = refl; file = asked .1 .1 .1; few = asked .0 .0 }
+
+abbrev first : tie.After-list-in-order Inv-loop μ-loop → tie.Start Inv-loop μ-loop
+first l = l .before .before .before .before .before .before .before .before .before
+
+abbrev listed : tie.After-clear Inv-loop μ-loop → tie.After-list-in-order Inv-loop μ-loop
+listed k = k .before .before .before .before .before .before .before .before .before .before
+
+-- the list of starts, its front cleared
+abbrev cleared : tie.After-clear Inv-loop μ-loop → List ℕ
+cleared k =
+    let start = first (listed k) in
+    putMid 0 (length (start .args .time .now) * start .args .turns - 0) (start .args .starts .now) (k .clear .last .0)
+
+clear-part : (k : tie.After-clear Inv-loop μ-loop) →
+    let start = first (listed k) in
+    Cleared (length (start .args .time .now) * start .args .turns) (start .args .starts .now) (cleared k)
+clear-part k =
+    let start = first (listed k) in
+    cleared-front (length (start .args .time .now) * start .args .turns) (start .args .starts .now) (k .clear .last .0) (start .pre .1 .1 .0 .2)
+    (k .clear .ensures)
+
+-- ── In a turn ──
+
+abbrev blank : tie.In-loop Inv-loop μ-loop → tie.After-clear Inv-loop μ-loop
+blank i = i .before .before .before .before
+
+abbrev chained : tie.In-loop Inv-loop μ-loop → tie.After-chain-delays Inv-loop μ-loop
+chained i = i .before .before .before .before .before .before .before .before
+
+abbrev begin : tie.In-loop Inv-loop μ-loop → tie.Start Inv-loop μ-loop
+begin i = first (listed (blank i))
+
+abbrev width : tie.In-loop Inv-loop μ-loop → ℕ
+width i = length (begin i .args .time .now)
+
+abbrev place : tie.In-loop Inv-loop μ-loop → ℕ
+place i = i .before .loop .at
+
+abbrev turn : tie.In-loop Inv-loop μ-loop → ℕ
+turn i = i .before .loop .turn
+
+-- the turn's own row of a list
+abbrev row : tie.In-loop Inv-loop μ-loop → List ℕ → List ℕ
+row i xs = midOf (place i) (place i + width i - place i) xs
+
+-- a list with another row in its place
+abbrev with-row : tie.In-loop Inv-loop μ-loop → List ℕ → List ℕ → List ℕ
+with-row i xs ys = putMid (place i) (place i + width i - place i) xs ys
+
+abbrev late-back : tie.In-loop Inv-loop μ-loop → List ℕ
+late-back i = midOf 0 (i .before .loop .late - 0) (i .before .loop .back)
+
+abbrev late-to : tie.In-loop Inv-loop μ-loop → List ℕ
+late-to i = midOf 0 (i .before .loop .late - 0) (i .before .loop .late-sink)
+
+abbrev ended : tie.In-loop Inv-loop μ-loop → List ℕ
+ended i = take (place i - 0) (i .before .loop .end)
+
+-- the turn is one of those asked for
+more : (i : tie.In-loop Inv-loop μ-loop) → (turn i ≤ begin i .args .turns) × (1 ≤ turn i) × (turn i ≤ 64)
+more i =
+    let few = begin i .pre .1 .1 .0 .1 in
+    let counted = i .before .loop .inv .0 .counted in
+    (omega arith, omega arith, omega arith)
+
+-- its row has room
+room : (i : tie.In-loop Inv-loop μ-loop) → Room (width i) (place i) (i .before .loop .starts) (i .before .loop .end)
+room i =
+    let few = begin i .pre .1 .1 .0 in
+    turn-room (i .before .loop .inv .0) (more i .0) (few .0) (few .1)
+    (subst (λ (m : ℕ). width i * begin i .args .turns ≤ m) (sym (clear-part (blank i) .long)) (few .2)) (few .3)
+
+row-wide : (i : tie.In-loop Inv-loop μ-loop) → length (row i (i .before .loop .starts)) ≡ width i
+row-wide i = part-length (place i) (width i) (i .before .loop .starts) (room i .starts-to)
+
+-- the entries so far are those that let the turn wait, as its row sees them
+row-late : (i : tie.In-loop Inv-loop μ-loop) → Late (edges (begin i)) (length (row i (i .before .loop .starts))) (turn i) (late-back i) (late-to i)
+row-late i =
+    subst (λ (m : ℕ). Late (edges (begin i)) m (turn i) (late-back i) (late-to i)) (sym (row-wide i))
+    (late-gathered (begin i .pre .1 .0) (i .before .loop .inv .1))
+
+row-ended : (i : tie.In-loop Inv-loop μ-loop) → length (ended i) ≡ (turn i - 1) * length (row i (i .before .loop .starts))
+row-ended i = ended-before (i .before .loop .inv .0) .long ∙ ap (λ (m : ℕ). (turn i - 1) * m) (sym (row-wide i))
+
+-- ── After the waits ──
+
+abbrev in-turn : tie.After-await-earlier Inv-loop μ-loop → tie.In-loop Inv-loop μ-loop
+in-turn t = t .before .before .before .before .before .before .before .before
+
+abbrev waited : tie.After-await-earlier Inv-loop μ-loop → List ℕ
+waited t = t .await-earlier .last .1 .1 .1 .0
+
+waited-wide : (t : tie.After-await-earlier Inv-loop μ-loop) → length (waited t) ≡ width (in-turn t)
+waited-wide t = t .await-earlier .ensures .0 ∙ row-wide (in-turn t)
+
+waits : (t : tie.After-await-earlier Inv-loop μ-loop) →
+    let i = in-turn t in
+    let given = row i (i .before .loop .starts) in
+    WaitEnsured (length given) (edges (begin i)) (ended i) (turn i) (at given) (at (waited t))
+waits t =
+    let i = in-turn t in
+    let es = edges (begin i) in
+    let said = t .await-earlier .ensures .1 in
+    (said .0 es (turn i) (row-late i) (row-ended i), said .1 es (turn i) (row-late i) (row-ended i))
+
+-- what is lent to be settled is the row that came back
+lent : (t : tie.After-await-earlier Inv-loop μ-loop) → row (in-turn t) (with-row (in-turn t) (in-turn t .before .loop .starts) (waited t)) ≡ waited t
+lent t =
+    let i = in-turn t in
+    mid-put (place i) (width i) (i .before .loop .starts) (waited t) (le-trans (le-add-right (place i) (width i)) (room i .starts-to)) (waited-wide t)
+
+lent-room : (t : tie.After-await-earlier Inv-loop μ-loop) →
+    place (in-turn t) + width (in-turn t) ≤ length (with-row (in-turn t) (in-turn t .before .loop .starts) (waited t))
+lent-room t =
+    let i = in-turn t in
+    subst (λ (m : ℕ). place i + width i ≤ m) (sym (put-length (place i) (width i) (i .before .loop .starts) (waited t) (room i .starts-to) (waited-wide t)))
+    (room i .starts-to)
+
+bounded : (t : tie.After-await-earlier Inv-loop μ-loop) → Bounded (edges (begin (in-turn t))) (at (begin (in-turn t) .args .time .now)) (waited t)
+bounded t =
+    let i = in-turn t in
+    waited-bounded (ready (begin i)) (more i .1) (more i .2) (ended-before (i .before .loop .inv .0)) (waited t)
+    (row-blank (i .before .loop .inv .0) (clear-part (blank i)) (more i .0) (room i .starts-to)) (waits t) (waited-wide t)
+
+-- ── After the turn is settled ──
+
+abbrev waited-turn : tie.After-settle-along Inv-loop μ-loop → tie.After-await-earlier Inv-loop μ-loop
+waited-turn t = t .before .before .before .before .before .before
+
+abbrev settled-turn : tie.After-settle-along Inv-loop μ-loop → tie.In-loop Inv-loop μ-loop
+settled-turn t = in-turn (waited-turn t)
+
+abbrev settled : tie.After-settle-along Inv-loop μ-loop → List ℕ
+settled t = t .settle-along .last .1 .1 .1 .1 .1 .1 .1 .1 .0
+
+abbrev turn-starts : tie.After-settle-along Inv-loop μ-loop → List ℕ
+turn-starts t =
+    let i = settled-turn t in
+    turnRow (width i) (edges (begin i)) (at (begin i .args .time .now)) (turn i)
+
+abbrev list-before : tie.After-settle-along Inv-loop μ-loop → List ℕ
+list-before t = with-row (settled-turn t) (settled-turn t .before .loop .starts) (waited (waited-turn t))
+
+-- the row that came back, and the same row as a part of the whole
+row-is : (t : tie.After-settle-along Inv-loop μ-loop) → settled t ≡ turn-starts t
+row-is t =
+    let i = settled-turn t in
+    let w = waited-turn t in
+    turn-row (ready (begin i)) (more i .1) (more i .2) (ended-before (i .before .loop .inv .0)) (waited w)
+    (row-blank (i .before .loop .inv .0) (clear-part (blank i)) (more i .0) (room i .starts-to)) (waits w)
+    (subst (λ (xs : List ℕ). Settled (edges (begin i)) (at (begin i .args .time .now)) xs (settled t)) (lent w) (t .settle-along .ensures .1))
+    (waited-wide w) (t .settle-along .ensures .0 ∙ ap length (lent w))
+
+row-long : (t : tie.After-settle-along Inv-loop μ-loop) → length (settled t) ≡ width (settled-turn t)
+row-long t =
+    let i = settled-turn t in
+    row-length (width i) (edges (begin i)) (at (begin i .args .time .now)) (turn i) (row-is t)
+
+row-back : (t : tie.After-settle-along Inv-loop μ-loop) → row (settled-turn t) (with-row (settled-turn t) (list-before t) (settled t)) ≡ turn-starts t
+row-back t =
+    let i = settled-turn t in
+    mid-put (place i) (width i) (list-before t) (settled t) (le-trans (le-add-right (place i) (width i)) (lent-room (waited-turn t))) (row-long t) ∙ row-is t
+
+one-less : (a b : ℕ) → b ≤ a → a + 1 - (b + 1) < a + 1 - b
+one-less a b l = omega arith
+
+-- ── The needs ──
+
+slice-aggregate-list-in-order : tie.Need-slice-aggregate-list-in-order Inv-loop μ-loop
+slice-aggregate-list-in-order c = refl
+
+slice-aggregate-list-in-order-2 : tie.Need-slice-aggregate-list-in-order-2 Inv-loop μ-loop
+slice-aggregate-list-in-order-2 c = refl
+
+list-in-order-requires : tie.Need-list-in-order-requires Inv-loop μ-loop
+list-in-order-requires c κs = let asked = c .before .before .before .before .before .before .before .before .pre in (asked .0, (asked .1 .1 .0 .0, (asked .1 .1 .1 .0, (refl, refl))))
 
 cast-count : tie.Need-cast-count Inv-loop μ-loop
 cast-count c = search needs
 
-one-less : (a b : ℕ) → b ≤ a → a + 1 - (b + 1) < a + 1 - b
-one-less a b more = omega arith
+cast-none : tie.Need-cast-none Inv-loop μ-loop
+cast-none c = omega (arith, first (c .before .before .before) .pre .1 .0)
 
-loop-holds : tie.Need-loop-holds Inv-loop μ-loop
-loop-holds c = turned-none _ _ _ _ _ _
+slice-aggregate-chain-delays : tie.Need-slice-aggregate-chain-delays Inv-loop μ-loop
+slice-aggregate-chain-delays c = refl
 
-ready : (s : tie.Start Inv-loop μ-loop) →
-    Ready (length (s .args .time .now)) (edgesOf (s .args .source .now) (s .args .sink .now) (s .args .delay .now)) (s .args .time .now)
-ready s =
-    let asked = s .pre in
-    record { bounds = asked .1 .1 .1 .0; none = asked .1 .1 .1 .1 .0; sized = refl; file = asked .1 .1 .1 .1 .1; few = asked .1 .1 .0 .0 }
+slice-aggregate-chain-delays-2 : tie.Need-slice-aggregate-chain-delays-2 Inv-loop μ-loop
+slice-aggregate-chain-delays-2 c = refl
 
--- the list of starts, its front cleared
-clear-part : (k : tie.After-clear Inv-loop μ-loop) →
-    let start = k .before .before .before .before .before .before .before .before .before .before .before .before .before .before .before .before .before .before .before in
-    let m = length (start .args .time .now) * start .args .turns in
-    Cleared m (start .args .starts .now) (putMid 0 (m - 0) (start .args .starts .now) (k .clear .last .0))
-clear-part k =
-    let start = k .before .before .before .before .before .before .before .before .before .before .before .before .before .before .before .before .before .before .before in
-    cleared-front (length (start .args .time .now) * start .args .turns) (start .args .starts .now) (k .clear .last .0) (start .pre .1 .1 .0 .2) (k .clear .ensures)
-
--- where the loop's test was taken, the next row has room
-room : (i : tie.In-loop Inv-loop μ-loop) →
-    Room (length (i .before .before .before .before .before .before .before .before .before .before .before .before .before .before .before .before .before .before .before .before .before .before .before .args .time .now)) (i .before .loop .at) (i .before .loop .starts) (i .before .loop .end)
-room i =
-    let start = i .before .before .before .before .before .before .before .before .before .before .before .before .before .before .before .before .before .before .before .before .before .before .before in
-    let few = start .pre .1 .1 .0 in
-    let more : i .before .loop .turn ≤ start .args .turns = omega arith in
-    turn-room (i .before .loop .inv) more (few .0) (few .1) (subst (λ (m : ℕ). length (start .args .time .now) * start .args .turns ≤ m) (sym (clear-part (i .before .before .before .before) .long)) (few .2)) (few .3)
-
-slice-aggregate-settle-turn : tie.Need-slice-aggregate-settle-turn Inv-loop μ-loop
-slice-aggregate-settle-turn c = search needs
-
-slice-aggregate-settle-turn-2 : tie.Need-slice-aggregate-settle-turn-2 Inv-loop μ-loop
-slice-aggregate-settle-turn-2 c = search needs
+chain-delays-requires : tie.Need-chain-delays-requires Inv-loop μ-loop
+chain-delays-requires c κs =
+    let asked = first (c .before .before .before .before .before) .pre in
+    let same = asked .0 .1 in
+    (subst (λ (m : ℕ). m ≤ 320) (sym same) (asked .1 .0), ap (λ (m : ℕ). replicate 256 m) (sym same), refl)
 
 mul-clear : tie.Need-mul-clear Inv-loop μ-loop
-mul-clear c =
-    let few = c .before .before .before .before .before .before .before .before .before .before .before .before .before .before .before .before .before .pre .1 .1 .0 in
-    omega (arith, product-small _ _ (few .0) (few .1))
+mul-clear c = let few = first (c .before .before .before .before .before .before .before .before) .pre .1 .1 .0 in omega (arith, product-small _ _ (few .0) (few .1))
 
 sub-clear : tie.Need-sub-clear Inv-loop μ-loop
 sub-clear c = search needs
@@ -82,245 +244,204 @@ part-clear-start : tie.Need-part-clear-start Inv-loop μ-loop
 part-clear-start c = search needs
 
 part-clear-end : tie.Need-part-clear-end Inv-loop μ-loop
-part-clear-end c = c .before .before .before .before .before .before .before .before .before .before .before .before .before .before .before .before .before .pre .1 .1 .0 .2
+part-clear-end c = first (c .before .before .before .before .before .before .before .before) .pre .1 .1 .0 .2
 
 clear-requires : tie.Need-clear-requires Inv-loop μ-loop
 clear-requires c κs = search needs
 
-sub-settle-turn : tie.Need-sub-settle-turn Inv-loop μ-loop
-sub-settle-turn c = search needs
+loop-holds : tie.Need-loop-holds Inv-loop μ-loop
+loop-holds c = (turned-none _ _ _ _ _ _, gathered-none refl refl (λ i here. let later = here .0 in let soon = here .1 in omega arith))
 
-part-settle-turn-start : tie.Need-part-settle-turn-start Inv-loop μ-loop
-part-settle-turn-start c = search needs
+add-next : tie.Need-add-next Inv-loop μ-loop
+add-next c = omega (arith, room c .small)
 
-part-settle-turn-end : tie.Need-part-settle-turn-end Inv-loop μ-loop
-part-settle-turn-end c = omega (arith, c .before .before .before .before .before .before .before .before .before .before .before .before .later-edges .ensures .few, c .before .before .before .before .before .before .before .before .before .before .before .before .later-edges .ensures .room, c .before .before .before .before .before .before .before .before .before .before .before .before .before .before .before .before .before .before .before .before .before .before .before .before .before .before .pre .1 .0)
+sub-await-earlier : tie.Need-sub-await-earlier Inv-loop μ-loop
+sub-await-earlier c = search needs
 
-add-settle-turn : tie.Need-add-settle-turn Inv-loop μ-loop
-add-settle-turn c = omega (arith, room (c .before .before .before .before .before .before .before .before .before .before) .small)
+part-await-earlier-start : tie.Need-part-await-earlier-start Inv-loop μ-loop
+part-await-earlier-start c = search needs
 
-mul-settle-turn : tie.Need-mul-settle-turn Inv-loop μ-loop
-mul-settle-turn c = omega (arith, room (c .before .before .before .before .before .before .before .before .before .before) .small)
+part-await-earlier-end : tie.Need-part-await-earlier-end Inv-loop μ-loop
+part-await-earlier-end c =
+    let i = c .before in
+    omega (arith, late-room (begin i .pre .1 .0) (i .before .loop .inv .1), i .before .loop .inv .1 .room)
 
-sub-settle-turn-2 : tie.Need-sub-settle-turn-2 Inv-loop μ-loop
-sub-settle-turn-2 c = search needs
+sub-await-earlier-2 : tie.Need-sub-await-earlier-2 Inv-loop μ-loop
+sub-await-earlier-2 c = search needs
 
-part-settle-turn-start-2 : tie.Need-part-settle-turn-start-2 Inv-loop μ-loop
-part-settle-turn-start-2 c = search needs
+part-await-earlier-start-2 : tie.Need-part-await-earlier-start-2 Inv-loop μ-loop
+part-await-earlier-start-2 c = search needs
 
-part-settle-turn-end-2 : tie.Need-part-settle-turn-end-2 Inv-loop μ-loop
-part-settle-turn-end-2 c = omega (arith, c .before .before .before .before .before .before .before .before .before .before .before .before .before .before .later-edges .ensures .few, c .before .before .before .before .before .before .before .before .before .before .before .before .before .before .later-edges .ensures .room-sink, c .before .before .before .before .before .before .before .before .before .before .before .before .before .before .before .before .before .before .before .before .before .before .before .before .before .before .before .before .pre .1 .0)
+part-await-earlier-end-2 : tie.Need-part-await-earlier-end-2 Inv-loop μ-loop
+part-await-earlier-end-2 c =
+    let i = c .before .before .before in
+    omega (arith, late-room (begin i .pre .1 .0) (i .before .loop .inv .1), i .before .loop .inv .1 .room-sink)
 
-settle-turn-requires : tie.Need-settle-turn-requires Inv-loop μ-loop
-settle-turn-requires c κs =
-    let i = c .before .before .before .before .before .before .before .before .before .before .before in
-    let loop = i .before .loop in
-    let start = i .before .before .before .before .before .before .before .before .before .before .before .before .before .before .before .before .before .before .before .before .before .before .before in
-    let asked = start .pre in
-    let es = edgesOf (start .args .source .now) (start .args .sink .now) (start .args .delay .now) in
-    let time = start .args .time .now in
-    let few = i .before .before .before .before .before .before .before .before .before .before .before .before .before .before .before .before .zero-order .ensures .0 in
-    let gathered = i .before .before .before .before .before .before .before .before .before .later-edges .ensures in
-    let count = i .before .before .before .before .before .before .before .before .before .later-edges .result in
-    let xs = i .before .before .before .before .before .before .before .before .before .later-edges .last .1 .1 .1 .1 .0 in
-    let ys = i .before .before .before .before .before .before .before .before .before .later-edges .last .1 .1 .1 .1 .1 .0 in
-    let zs = i .before .before .before .before .before .before .before .before .before .later-edges .last .1 .1 .1 .1 .1 .1 .0 in
-    let fits : count ≤ length xs = omega (arith, gathered .few, gathered .room, asked .1 .0) in
-    let fits-sink : count ≤ length ys = omega (arith, gathered .few, gathered .room-sink, asked .1 .0) in
-    let fits-delay : count ≤ length zs = omega (arith, gathered .few, gathered .room-delay, asked .1 .0) in
-    let more : loop .turn ≤ start .args .turns = omega arith in
-    let same = sym (part-length (loop .at) (length time) (loop .starts) (room i .starts-to)) in (
-      asked .0,
+sub-await-earlier-3 : tie.Need-sub-await-earlier-3 Inv-loop μ-loop
+sub-await-earlier-3 c = search needs
+
+part-await-earlier-start-3 : tie.Need-part-await-earlier-start-3 Inv-loop μ-loop
+part-await-earlier-start-3 c = search needs
+
+part-await-earlier-end-3 : tie.Need-part-await-earlier-end-3 Inv-loop μ-loop
+part-await-earlier-end-3 c = room (c .before .before .before .before .before) .end-from
+
+mul-await-earlier : tie.Need-mul-await-earlier Inv-loop μ-loop
+mul-await-earlier c = omega (arith, room (c .before .before .before .before .before .before) .small)
+
+sub-await-earlier-4 : tie.Need-sub-await-earlier-4 Inv-loop μ-loop
+sub-await-earlier-4 c = search needs
+
+part-await-earlier-start-4 : tie.Need-part-await-earlier-start-4 Inv-loop μ-loop
+part-await-earlier-start-4 c = omega arith
+
+part-await-earlier-end-4 : tie.Need-part-await-earlier-end-4 Inv-loop μ-loop
+part-await-earlier-end-4 c = room (c .before .before .before .before .before .before) .starts-to
+
+await-earlier-requires : tie.Need-await-earlier-requires Inv-loop μ-loop
+await-earlier-requires c κs =
+    let i = c .before .before .before .before .before .before .before in
+    let es = edges (begin i) in
+    let few = begin i .pre .1 .0 in (
+      late-front-sink few (i .before .loop .inv .1) ∙ sym (late-front few (i .before .loop .inv .1)),
+      late-inside (late-back i) (late-to i) (ended i) (row i (i .before .loop .starts)) (row-late i) (row-ended i)
+          (subst (λ (m : ℕ). Ends m es) (sym (row-wide i)) (ready (begin i) .bounds)),
+    )
+
+slice-aggregate-settle-along : tie.Need-slice-aggregate-settle-along Inv-loop μ-loop
+slice-aggregate-settle-along c = sym (listed (blank (in-turn (c .before .before .before))) .list-in-order .ensures .0 .1)
+
+slice-aggregate-settle-along-2 : tie.Need-slice-aggregate-settle-along-2 Inv-loop μ-loop
+slice-aggregate-settle-along-2 c = sym (listed (blank (in-turn (c .before .before .before .before))) .list-in-order .ensures .0 .2)
+
+mul-settle-along : tie.Need-mul-settle-along Inv-loop μ-loop
+mul-settle-along c = omega (arith, room (in-turn (c .before .before .before .before)) .small)
+
+sub-settle-along : tie.Need-sub-settle-along Inv-loop μ-loop
+sub-settle-along c = search needs
+
+part-settle-along-start : tie.Need-part-settle-along-start Inv-loop μ-loop
+part-settle-along-start c = omega arith
+
+part-settle-along-end : tie.Need-part-settle-along-end Inv-loop μ-loop
+part-settle-along-end c = lent-room (c .before .before .before .before)
+
+settle-along-requires : tie.Need-settle-along-requires Inv-loop μ-loop
+settle-along-requires c κs =
+    let w = c .before .before .before .before .before in
+    let i = in-turn w in
+    let es = edges (begin i) in
+    let time = at (begin i .args .time .now) in
+    let said = listed (blank i) .list-in-order .ensures in
+    let wide = sym (ap length (lent w) ∙ waited-wide w) in (
+      begin i .pre .0,
       (
-        (omega (arith, few .0, few .1), omega (arith, few .0, few .2)),
+        (omega (arith, said .0 .0, said .0 .1), omega (arith, said .0 .0, said .0 .2), wide),
         (
-          i .before .before .before .before .before .before .before .before .before .before .before .before .before .before .before .before .zero-order .ensures .1,
-          (
-            (front-length ys count fits-sink ∙ sym (front-length xs count fits), front-length zs count fits-delay ∙ sym (front-length xs count fits)),
-            (
-              late-gathered (start .args .source .now) (start .args .sink .now) (start .args .delay .now) xs ys zs (start .args .turns) count (loop .turn) (asked .1 .0) gathered (omega arith),
-              (
-                (same, subst (λ (m : ℕ). m ≤ 64) same (asked .1 .1 .0 .0)),
-                (
-                  row-blank (loop .inv) (clear-part (i .before .before .before .before)) more (room i .starts-to) ∙ ap (λ (m : ℕ). zeros m) same,
-                  (
-                    (omega arith, omega arith),
-                    (
-                      subst (λ (m : ℕ). Ends m es) same (asked .1 .1 .1 .0),
-                      (subst (λ (m : ℕ). zeroCycle m es ≡ false) same (asked .1 .1 .1 .1 .0), (asked .1 .1 .1 .1 .1, ended-before (loop .inv) same (omega arith))),
-                    ),
-                  ),
-                ),
-              ),
-            ),
-          ),
+          subst (λ (m : ℕ). Ends m es) wide (ready (begin i) .bounds),
+          (said .1, subst (λ (xs : List ℕ). Bounded es time xs) (sym (lent w)) (bounded w)),
         ),
       ),
     )
 
--- the row that came back, and the same row as a part of the whole
-row-is : (t : tie.After-settle-turn Inv-loop μ-loop) →
-    let i = t .before .before .before .before .before .before .before .before .before .before .before .before in
-    let start = i .before .before .before .before .before .before .before .before .before .before .before .before .before .before .before .before .before .before .before .before .before .before .before in
-    t .settle-turn .last .1 .1 .1 .1 .1 .1 .1 .1 .1 .1 .1 .1 .1 .0 ≡
-    turnRow (length (start .args .time .now)) (edgesOf (start .args .source .now) (start .args .sink .now) (start .args .delay .now))
-    (at (start .args .time .now)) (i .before .loop .turn)
-row-is t =
-    let i = t .before .before .before .before .before .before .before .before .before .before .before .before in
-    let start = i .before .before .before .before .before .before .before .before .before .before .before .before .before .before .before .before .before .before .before .before .before .before .before in
-    let loop = i .before .loop in
-    t .settle-turn .ensures ∙
-    ap
-    (λ (m : ℕ).
-    turnRow m (edgesOf (start .args .source .now) (start .args .sink .now) (start .args .delay .now)) (at (start .args .time .now)) (loop .turn))
-    (part-length (loop .at) (length (start .args .time .now)) (loop .starts) (room i .starts-to))
-
-row-back : (t : tie.After-settle-turn Inv-loop μ-loop) →
-    let i = t .before .before .before .before .before .before .before .before .before .before .before .before in
-    let start = i .before .before .before .before .before .before .before .before .before .before .before .before .before .before .before .before .before .before .before .before .before .before .before in
-    let n = length (start .args .time .now) in
-    let place = i .before .loop .at in
-    midOf place (place + n - place) (putMid place (place + n - place) (i .before .loop .starts) (t .settle-turn .last .1 .1 .1 .1 .1 .1 .1 .1 .1 .1 .1 .1 .1 .0)) ≡
-    turnRow n (edgesOf (start .args .source .now) (start .args .sink .now) (start .args .delay .now)) (at (start .args .time .now)) (i .before .loop .turn)
-row-back t =
-    let i = t .before .before .before .before .before .before .before .before .before .before .before .before in
-    let start = i .before .before .before .before .before .before .before .before .before .before .before .before .before .before .before .before .before .before .before .before .before .before .before in
-    let place = i .before .loop .at in
-    let n = length (start .args .time .now) in
-    let es = edgesOf (start .args .source .now) (start .args .sink .now) (start .args .delay .now) in
-    mid-put place n (i .before .loop .starts) (t .settle-turn .last .1 .1 .1 .1 .1 .1 .1 .1 .1 .1 .1 .1 .1 .0) (le-trans (le-add-right place n) (room i .starts-to))
-    (row-length n es (at (start .args .time .now)) (i .before .loop .turn) (row-is t)) ∙
-    row-is t
-
-add-ends-into : tie.Need-add-ends-into Inv-loop μ-loop
-add-ends-into c = omega (arith, room (c .before .before .before .before .before .before .before .before .before .before .before .before .before .before) .small)
-
 mul-ends-into : tie.Need-mul-ends-into Inv-loop μ-loop
-mul-ends-into c = omega (arith, room (c .before .before .before .before .before .before .before .before .before .before .before .before .before .before) .small)
+mul-ends-into c = omega (arith, room (settled-turn (c .before .before)) .small)
 
 sub-ends-into : tie.Need-sub-ends-into Inv-loop μ-loop
 sub-ends-into c = search needs
 
 part-ends-into-start : tie.Need-part-ends-into-start Inv-loop μ-loop
-part-ends-into-start c = search needs
+part-ends-into-start c = omega arith
 
 part-ends-into-end : tie.Need-part-ends-into-end Inv-loop μ-loop
 part-ends-into-end c =
     let t = c .before .before .before in
-    let i = t .before .before .before .before .before .before .before .before .before .before .before .before in
-    let start = i .before .before .before .before .before .before .before .before .before .before .before .before .before .before .before .before .before .before .before .before .before .before .before in
-    let n = length (start .args .time .now) in
-    let es = edgesOf (start .args .source .now) (start .args .sink .now) (start .args .delay .now) in
-    subst (λ (m : ℕ). i .before .loop .at + n ≤ m)
-    (sym
-    (put-length (i .before .loop .at) n (i .before .loop .starts) (t .settle-turn .last .1 .1 .1 .1 .1 .1 .1 .1 .1 .1 .1 .1 .1 .0) (room i .starts-to)
-    (row-length n es (at (start .args .time .now)) (i .before .loop .turn) (row-is t))))
-    (room i .starts-to)
-
-add-ends-into-2 : tie.Need-add-ends-into-2 Inv-loop μ-loop
-add-ends-into-2 c = omega (arith, room (c .before .before .before .before .before .before .before .before .before .before .before .before .before .before .before .before) .small)
+    let i = settled-turn t in
+    subst (λ (m : ℕ). place i + width i ≤ m)
+    (sym (put-length (place i) (width i) (list-before t) (settled t) (lent-room (waited-turn t)) (row-long t))) (lent-room (waited-turn t))
 
 mul-ends-into-2 : tie.Need-mul-ends-into-2 Inv-loop μ-loop
-mul-ends-into-2 c = omega (arith, room (c .before .before .before .before .before .before .before .before .before .before .before .before .before .before .before .before) .small)
+mul-ends-into-2 c = omega (arith, room (settled-turn (c .before .before .before .before)) .small)
 
 sub-ends-into-2 : tie.Need-sub-ends-into-2 Inv-loop μ-loop
 sub-ends-into-2 c = search needs
 
 part-ends-into-start-2 : tie.Need-part-ends-into-start-2 Inv-loop μ-loop
-part-ends-into-start-2 c = search needs
+part-ends-into-start-2 c = omega arith
 
 part-ends-into-end-2 : tie.Need-part-ends-into-end-2 Inv-loop μ-loop
-part-ends-into-end-2 c = room (c .before .before .before .before .before .before .before .before .before .before .before .before .before .before .before .before) .end-to
+part-ends-into-end-2 c = room (settled-turn (c .before .before .before .before)) .end-to
 
 ends-into-requires : tie.Need-ends-into-requires Inv-loop μ-loop
 ends-into-requires c κs =
     let t = c .before .before .before .before .before in
-    let i = t .before .before .before .before .before .before .before .before .before .before .before .before in
-    let start = i .before .before .before .before .before .before .before .before .before .before .before .before .before .before .before .before .before .before .before .before .before .before .before in
-    let loop = i .before .loop in
-    let es = edgesOf (start .args .source .now) (start .args .sink .now) (start .args .delay .now) in
-    let time = start .args .time .now in
-    let long = row-length (length time) es (at time) (loop .turn) (row-back t) in (
-      (long, part-length (loop .at) (length time) (loop .end) (room i .end-to)),
+    let i = settled-turn t in
+    let es = edges (begin i) in
+    let time = begin i .args .time .now in
+    let long = row-length (length time) es (at time) (turn i) (row-back t) in (
+      (long, part-length (place i) (length time) (i .before .loop .end) (room i .end-to)),
       λ v l.
           let here = subst (λ (m : ℕ). v < m) long l in
-          let early : loop .turn ≤ 64 = le-trans (i .loop-test .taken) (start .pre .1 .1 .0 .1) in
-          let end = end-fits (ready start) (loop .inv .counted) early v here in
-          subst (λ (x : ℕ). x ≤ 1073741824) (sym (row-at (length time) es (at time) (loop .turn) (row-back t) v here)) (omega arith),
+          let end = end-fits (ready (begin i)) (more i .1) (more i .2) v here in
+          subst (λ (x : ℕ). x ≤ 1073741824) (sym (row-at (length time) es (at time) (turn i) (row-back t) v here)) (omega arith),
     )
 
-add-at : tie.Need-add-at Inv-loop μ-loop
-add-at c = omega (arith, room (c .before .before .before .before .before .before .before .before .before .before .before .before .before .before .before .before .before .before .before .before) .small)
+slice-aggregate-take-chain : tie.Need-slice-aggregate-take-chain Inv-loop μ-loop
+slice-aggregate-take-chain c = sym (chained (settled-turn (c .before .before .before .before .before .before .before .before .before)) .chain-delays .ensures .heads)
+
+slice-aggregate-take-chain-2 : tie.Need-slice-aggregate-take-chain-2 Inv-loop μ-loop
+slice-aggregate-take-chain-2 c = sym (chained (settled-turn (c .before .before .before .before .before .before .before .before .before .before)) .chain-delays .ensures .links)
+
+slice-aggregate-take-chain-3 : tie.Need-slice-aggregate-take-chain-3 Inv-loop μ-loop
+slice-aggregate-take-chain-3 c = sym (settled-turn (c .before .before .before .before .before .before .before .before .before .before .before) .before .loop .inv .1 .room)
+
+slice-aggregate-take-chain-4 : tie.Need-slice-aggregate-take-chain-4 Inv-loop μ-loop
+slice-aggregate-take-chain-4 c = sym (settled-turn (c .before .before .before .before .before .before .before .before .before .before .before .before) .before .loop .inv .1 .room-sink)
+
+take-chain-requires : tie.Need-take-chain-requires Inv-loop μ-loop
+take-chain-requires c κs =
+    let i = settled-turn (c .before .before .before .before .before .before .before .before .before .before .before .before) in
+    let asked = begin i .pre in (
+      asked .0,
+      ((omega (arith, more i .1), omega (arith, more i .2), asked .1 .1 .0 .0), (asked .1 .1 .1 .0, (chained i .chain-delays .ensures, i .before .loop .inv .1))),
+    )
 
 add-turn : tie.Need-add-turn Inv-loop μ-loop
-add-turn c = omega (arith, c .before .before .before .before .before .before .before .before .before .before .before .before .before .before .before .before .before .before .before .before .before .before .before .before .before .before .before .before .before .before .before .before .before .before .before .before .before .before .before .before .before .before .before .pre .1 .1 .0 .1, c .before .before .before .before .before .before .before .before .before .before .before .before .before .before .before .before .before .before .before .before .loop-test .taken)
+add-turn c = omega (arith, more (settled-turn (c .before .before .before .before .before .before .before .before .before .before .before .before .before .before .before)) .2)
 
 loop-less : tie.Need-loop-less Inv-loop μ-loop
-loop-less c = one-less (c .before .before .before .before .before .before .before .before .before .before .before .before .before .before .before .before .before .before .before .before .before .before .before .before .before .before .before .before .before .before .before .before .before .before .before .before .before .before .before .before .before .before .before .args .turns) (c .before .before .before .before .before .before .before .before .before .before .before .before .before .before .before .before .before .before .before .before .before .loop .turn) (c .before .before .before .before .before .before .before .before .before .before .before .before .before .before .before .before .before .before .before .before .loop-test .taken)
+loop-less c = let i = settled-turn (c .before .before .before .before .before .before .before .before .before .before .before .before .before .before .before) in one-less (begin i .args .turns) (turn i) (more i .0)
 
 loop-again : tie.Need-loop-again Inv-loop μ-loop
 loop-again c =
-    let t = c .before .before .before .before .before .before .before .before in
-    let i = t .before .before .before .before .before .before .before .before .before .before .before .before in
-    let start = i .before .before .before .before .before .before .before .before .before .before .before .before .before .before .before .before .before .before .before .before .before .before .before in
-    let es = edgesOf (start .args .source .now) (start .args .sink .now) (start .args .delay .now) in
-    let time = start .args .time .now in
-    let more : i .before .loop .turn ≤ start .args .turns = omega arith in
-    turned-more (i .before .loop .inv) more (room i .starts-to) (room i .end-to) (row-is t)
-    (ends-row (length time) es (at time) (i .before .loop .turn) (row-back t) (c .before .before .ends-into .ensures))
+    let t = c .before .before .before .before .before .before .before .before .before .before .before .before .before .before .before in
+    let i = settled-turn t in
+    let es = edges (begin i) in
+    let time = begin i .args .time .now in
+    let made = c .before .before .before .before .before .before .before .before .before .ends-into .last .1 .1 .0 in (
+      subst
+          (λ (xs : List ℕ).
+          Turned (length time) es (at time) (begin i .args .turns) (cleared (blank i)) (begin i .args .end .now) (place i + width i) (turn i + 1) xs
+          (with-row i (i .before .loop .end) made))
+          (sym
+          (put-twice (place i) (width i) (i .before .loop .starts) (waited (waited-turn t)) (settled t) (room i .starts-to) (waited-wide (waited-turn t))))
+          (turned-more (i .before .loop .inv .0) (more i .0) (room i .starts-to) (room i .end-to) (row-is t)
+          (ends-row (length time) es (at time) (turn i) (row-back t) (c .before .before .before .before .before .before .before .before .before .ends-into .ensures))),
+      c .before .before .take-chain .ensures,
+    )
 
 same-length : tie.Need-same-length Inv-loop μ-loop
-same-length c = c .before .loop .inv .end-long
+same-length c = c .before .loop .inv .0 .end-long
 
 same-length-2 : tie.Need-same-length-2 Inv-loop μ-loop
-same-length-2 c = c .before .loop .inv .starts-long ∙ clear-part (c .before .before .before .before) .long
+same-length-2 c = c .before .loop .inv .0 .starts-long ∙ clear-part (c .before .before .before .before) .long
 
 returns : tie.Need-returns Inv-loop μ-loop
 returns c =
-    let start = c .before .before .before .before .before .before .before .before .before .before .before .before .before .before .before .before .before .before .before .before .before .before .before in
+    let start = first (listed (c .before .before .before .before)) in
     let time = start .args .time .now in
-    let es = edgesOf (start .args .source .now) (start .args .sink .now) (start .args .delay .now) in
-    turned-all (c .before .loop .inv) (omega arith) ∙
-    ap (λ (xs : List ℕ). turnRows (length time) es (at time) (start .args .turns) ++ xs) (clear-part (c .before .before .before .before) .behind)
-
-slice-aggregate-later-edges : tie.Need-slice-aggregate-later-edges Inv-loop μ-loop
-slice-aggregate-later-edges c = refl
-
-slice-aggregate-later-edges-2 : tie.Need-slice-aggregate-later-edges-2 Inv-loop μ-loop
-slice-aggregate-later-edges-2 c = refl
-
-slice-aggregate-later-edges-3 : tie.Need-slice-aggregate-later-edges-3 Inv-loop μ-loop
-slice-aggregate-later-edges-3 c = refl
-
-later-edges-requires : tie.Need-later-edges-requires Inv-loop μ-loop
-later-edges-requires c κs = let asked = c .before .before .before .before .before .before .before .before .before .before .before .before .before .pre in ((asked .0 .0, asked .0 .1, asked .1 .0), (refl, refl, refl))
-
-sub-settle-turn-3 : tie.Need-sub-settle-turn-3 Inv-loop μ-loop
-sub-settle-turn-3 c = search needs
-
-part-settle-turn-start-3 : tie.Need-part-settle-turn-start-3 Inv-loop μ-loop
-part-settle-turn-start-3 c = search needs
-
-part-settle-turn-end-3 : tie.Need-part-settle-turn-end-3 Inv-loop μ-loop
-part-settle-turn-end-3 c = omega (arith, c .before .before .before .before .before .before .before .before .before .before .before .before .before .before .before .before .later-edges .ensures .few, c .before .before .before .before .before .before .before .before .before .before .before .before .before .before .before .before .later-edges .ensures .room-delay, c .before .before .before .before .before .before .before .before .before .before .before .before .before .before .before .before .before .before .before .before .before .before .before .before .before .before .before .before .before .before .pre .1 .0)
-
-sub-settle-turn-4 : tie.Need-sub-settle-turn-4 Inv-loop μ-loop
-sub-settle-turn-4 c = search needs
-
-part-settle-turn-start-4 : tie.Need-part-settle-turn-start-4 Inv-loop μ-loop
-part-settle-turn-start-4 c = search needs
-
-part-settle-turn-end-4 : tie.Need-part-settle-turn-end-4 Inv-loop μ-loop
-part-settle-turn-end-4 c = room (c .before .before .before .before .before .before .before .before .before) .end-from
-
-sub-settle-turn-5 : tie.Need-sub-settle-turn-5 Inv-loop μ-loop
-sub-settle-turn-5 c = search needs
-
-part-settle-turn-start-5 : tie.Need-part-settle-turn-start-5 Inv-loop μ-loop
-part-settle-turn-start-5 c = search needs
-
-part-settle-turn-end-5 : tie.Need-part-settle-turn-end-5 Inv-loop μ-loop
-part-settle-turn-end-5 c = room (c .before .before .before .before .before .before .before .before .before .before) .starts-to
+    turned-all (c .before .loop .inv .0) (omega arith) ∙
+    ap (λ (xs : List ℕ). turnRows (length time) (edges start) (at time) (start .args .turns) ++ xs) (clear-part (c .before .before .before .before) .behind)
 
 pub turns-with-spec : {M : Type 1} → statement M
 turns-with-spec =
@@ -328,50 +449,56 @@ turns-with-spec =
     (tie.spec
     Inv-loop
     μ-loop
-    zero-order-requires
+    slice-aggregate-list-in-order
+    slice-aggregate-list-in-order-2
+    list-in-order-requires
     cast-count
-    slice-aggregate-later-edges
-    slice-aggregate-later-edges-2
-    slice-aggregate-later-edges-3
-    later-edges-requires
+    cast-none
+    slice-aggregate-chain-delays
+    slice-aggregate-chain-delays-2
+    chain-delays-requires
     mul-clear
     sub-clear
     part-clear-start
     part-clear-end
     clear-requires
     loop-holds
-    slice-aggregate-settle-turn
-    slice-aggregate-settle-turn-2
-    sub-settle-turn
-    part-settle-turn-start
-    part-settle-turn-end
-    sub-settle-turn-2
-    part-settle-turn-start-2
-    part-settle-turn-end-2
-    sub-settle-turn-3
-    part-settle-turn-start-3
-    part-settle-turn-end-3
-    sub-settle-turn-4
-    part-settle-turn-start-4
-    part-settle-turn-end-4
-    add-settle-turn
-    mul-settle-turn
-    sub-settle-turn-5
-    part-settle-turn-start-5
-    part-settle-turn-end-5
-    settle-turn-requires
-    add-ends-into
+    add-next
+    sub-await-earlier
+    part-await-earlier-start
+    part-await-earlier-end
+    sub-await-earlier-2
+    part-await-earlier-start-2
+    part-await-earlier-end-2
+    sub-await-earlier-3
+    part-await-earlier-start-3
+    part-await-earlier-end-3
+    mul-await-earlier
+    sub-await-earlier-4
+    part-await-earlier-start-4
+    part-await-earlier-end-4
+    await-earlier-requires
+    slice-aggregate-settle-along
+    slice-aggregate-settle-along-2
+    mul-settle-along
+    sub-settle-along
+    part-settle-along-start
+    part-settle-along-end
+    settle-along-requires
     mul-ends-into
     sub-ends-into
     part-ends-into-start
     part-ends-into-end
-    add-ends-into-2
     mul-ends-into-2
     sub-ends-into-2
     part-ends-into-start-2
     part-ends-into-end-2
     ends-into-requires
-    add-at
+    slice-aggregate-take-chain
+    slice-aggregate-take-chain-2
+    slice-aggregate-take-chain-3
+    slice-aggregate-take-chain-4
+    take-chain-requires
     add-turn
     loop-less
     loop-again

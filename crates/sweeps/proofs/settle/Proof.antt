@@ -1,29 +1,32 @@
--- `sweeps::settle` meets its contract: a sweep by number that changes no row leaves no task marked, so no edge betters a path; every other sweep lowers
--- the table's sum.
-use mathlib.Core.Path.{_≡_, refl, sym, _∙_}
-use mathlib.Core.Bool.{false}
+-- `sweeps::settle` meets its contract: no task is marked, by a word that is 0 or after a sweep by number that changes no row, so no edge betters a path;
+-- every other sweep lowers the table's sum.
+use borrow.Author.Tests.{eqb-true, not-false}
+use mathlib.Core.Path.{_≡_, refl, sym, ap, _∙_}
+use mathlib.Core.Bool.{false, not}
 use Prim.Native.Nat.{ℕ, _<_}
 use native.Mathlib.Omega.{arith}
-use lib.ListN.{getD}
+use lib.Dec.{eqb}
 use Rattle.records.specs.Columns.{edgesOf}
+use Rattle.reach.specs.Reach.{bit}
+use Rattle.reach.proofs.Bits.{bit-zero}
 use Rattle.sweeps.specs.Sweeps.{Going}
 use Rattle.sweeps.proofs.Over.{fit-at, fit-wide}
-use Rattle.sweeps.proofs.Settled.{going-start, settled, left, left-less}
+use Rattle.sweeps.proofs.Settled.{going-start, settled, left, left-less, left-fewer}
 use Rattle.sweeps.proofs.settle.Statement.{statement}
 use Rattle.sweeps.proofs.settle.Tie as tie
 
 abbrev Inv-loop : tie.InvT-loop
-Inv-loop source sink delay tasks sequence table₀ first next follows stale₀ changed₀ table stale changed = Going (edgesOf source sink delay) table stale
+Inv-loop source sink delay tasks sequence table₀ first next follows stale₀ going₀ table stale going = Going (edgesOf source sink delay) table stale
 
 abbrev μ-loop : tie.MeasureT-loop
-μ-loop source sink delay tasks sequence table₀ first next follows stale₀ changed₀ table stale changed = left table changed
+μ-loop source sink delay tasks sequence table₀ first next follows stale₀ going₀ table stale going = left table going
 
 abbrev Inv-loop2 : tie.InvT-loop2
-Inv-loop2 source sink delay tasks sequence table₀ first next follows stale₀ changed again₀ table stale again =
-    Going (edgesOf source sink delay) table stale × (again ≡ false → (x : ℕ) → x < tasks → getD stale x 0 ≡ 0)
+Inv-loop2 source sink delay tasks sequence table₀ first next follows stale₀ going again₀ table stale again =
+    Going (edgesOf source sink delay) table stale × (again ≡ false → (x : ℕ) → x < tasks → bit stale x ≡ false)
 
 abbrev μ-loop2 : tie.MeasureT-loop2
-μ-loop2 source sink delay tasks sequence table₀ first next follows stale₀ changed again₀ table stale again = left table again
+μ-loop2 source sink delay tasks sequence table₀ first next follows stale₀ going again₀ table stale again = left table again
 
 slice-aggregate-chain-edges : tie.Need-slice-aggregate-chain-edges Inv-loop μ-loop Inv-loop2 μ-loop2
 slice-aggregate-chain-edges c = refl
@@ -45,7 +48,7 @@ mark-followers-requires c κs =
 loop-holds : tie.Need-loop-holds Inv-loop μ-loop Inv-loop2 μ-loop2
 loop-holds c =
     let start = c .before .before .before .before .before .before .before .before .before .before .before .before .before in
-    going-start (fit-wide (start .pre .0 .3) (start .pre .1 .0) .ends) (start .pre .1 .1) refl
+    going-start (start .args .source .now) (start .args .sink .now) (start .args .delay .now) (start .pre .1 .1) (c .before .mark-followers .ensures .1)
 
 slice-aggregate-sweep-along : tie.Need-slice-aggregate-sweep-along Inv-loop μ-loop Inv-loop2 μ-loop2
 slice-aggregate-sweep-along c = sym (c .before .before .before .before .before .before .before .before .chain-edges .ensures .firsts .room)
@@ -54,62 +57,54 @@ slice-aggregate-sweep-along-2 : tie.Need-slice-aggregate-sweep-along-2 Inv-loop 
 slice-aggregate-sweep-along-2 c = sym (c .before .before .before .before .before .before .before .before .before .chain-edges .ensures .room)
 
 slice-aggregate-sweep-along-3 : tie.Need-slice-aggregate-sweep-along-3 Inv-loop μ-loop Inv-loop2 μ-loop2
-slice-aggregate-sweep-along-3 c = sym (c .before .before .before .before .before .before .mark-followers .ensures .size)
-
-slice-aggregate-sweep-along-4 : tie.Need-slice-aggregate-sweep-along-4 Inv-loop μ-loop Inv-loop2 μ-loop2
-slice-aggregate-sweep-along-4 c = sym (c .before .before .before .before .before .before .loop .inv .marks)
+slice-aggregate-sweep-along-3 c = sym (c .before .before .before .before .before .before .mark-followers .ensures .0 .size)
 
 sweep-along-requires : tie.Need-sweep-along-requires Inv-loop μ-loop Inv-loop2 μ-loop2
 sweep-along-requires c κs =
-    let asked = c .before .before .before .before .before .before .before .before .before .before .before .before .before .before .before .before .before .before .before .before .pre in
-    ((asked .0 .0, asked .0 .1, asked .0 .2), (fit-wide (asked .0 .3) (asked .1 .0), (c .before .before .before .before .before .before .before .before .before .before .before .before .chain-edges .ensures, (c .before .before .before .before .before .before .before .before .mark-followers .ensures, c .before .before .before .before .before .before .loop .inv))))
+    let asked = c .before .before .before .before .before .before .before .before .before .before .before .before .before .before .before .before .before .before .before .pre in
+    ((asked .0 .0, asked .0 .1, asked .0 .2), (fit-wide (asked .0 .3) (asked .1 .0), (c .before .before .before .before .before .before .before .before .before .before .before .chain-edges .ensures, (c .before .before .before .before .before .before .before .mark-followers .ensures .0, c .before .before .before .before .before .loop .inv))))
 
 loop-less : tie.Need-loop-less Inv-loop μ-loop Inv-loop2 μ-loop2
-loop-less c = left-less (c .before .before .before .before .before .before .before .before .before .before .loop .changed) (c .before .before .before .sweep-along .result) (c .before .before .before .before .before .before .before .before .before .loop-test .taken) (c .before .before .before .sweep-along .ensures .1)
+loop-less c =
+    let swept = c .before .before .before .sweep-along in
+    left-fewer (c .before .before .before .before .before .before .before .before .before .loop .going) (swept .result .changed) (not (eqb (swept .result .stale) 0)) (c .before .before .before .before .before .before .before .before .loop-test .taken) (swept .ensures .1)
 
 loop-again : tie.Need-loop-again Inv-loop μ-loop Inv-loop2 μ-loop2
 loop-again c = c .before .before .before .sweep-along .ensures .0
 
-slice-aggregate-any-marked : tie.Need-slice-aggregate-any-marked Inv-loop μ-loop Inv-loop2 μ-loop2
-slice-aggregate-any-marked c = sym (c .before .before .loop .inv .marks)
-
-any-marked-requires : tie.Need-any-marked-requires Inv-loop μ-loop Inv-loop2 μ-loop2
-any-marked-requires c κs = c .before .before .loop .inv .marks
-
 loop2-holds : tie.Need-loop2-holds Inv-loop μ-loop Inv-loop2 μ-loop2
-loop2-holds c = (c .before .before .before .loop .inv, λ q x l. c .any-marked .ensures q x (omega (arith, c .before .before .before .before .before .before .before .before .before .before .before .before .before .before .before .before .before .pre .0 .3)))
+loop2-holds c =
+    let stale = c .before .loop .stale in
+    (c .before .loop .inv, λ q x l. ap (λ (word : ℕ). bit word x) (eqb-true stale 0 (not-false (eqb stale 0) q)) ∙ bit-zero x)
 
 slice-aggregate-sweep : tie.Need-slice-aggregate-sweep Inv-loop μ-loop Inv-loop2 μ-loop2
-slice-aggregate-sweep c = sym (c .before .before .before .before .before .before .before .before .before .before .before .before .chain-edges .ensures .firsts .room)
+slice-aggregate-sweep c = sym (c .before .before .before .before .before .before .before .before .before .before .chain-edges .ensures .firsts .room)
 
 slice-aggregate-sweep-2 : tie.Need-slice-aggregate-sweep-2 Inv-loop μ-loop Inv-loop2 μ-loop2
-slice-aggregate-sweep-2 c = sym (c .before .before .before .before .before .before .before .before .before .before .before .before .before .chain-edges .ensures .room)
+slice-aggregate-sweep-2 c = sym (c .before .before .before .before .before .before .before .before .before .before .before .chain-edges .ensures .room)
 
 slice-aggregate-sweep-3 : tie.Need-slice-aggregate-sweep-3 Inv-loop μ-loop Inv-loop2 μ-loop2
-slice-aggregate-sweep-3 c = sym (c .before .before .before .before .before .before .before .before .before .before .mark-followers .ensures .size)
-
-slice-aggregate-sweep-4 : tie.Need-slice-aggregate-sweep-4 Inv-loop μ-loop Inv-loop2 μ-loop2
-slice-aggregate-sweep-4 c = sym (c .before .before .before .before .before .before .loop2 .inv .0 .marks)
+slice-aggregate-sweep-3 c = sym (c .before .before .before .before .before .before .before .before .mark-followers .ensures .0 .size)
 
 sweep-requires : tie.Need-sweep-requires Inv-loop μ-loop Inv-loop2 μ-loop2
 sweep-requires c κs =
-    let asked = c .before .before .before .before .before .before .before .before .before .before .before .before .before .before .before .before .before .before .before .before .before .before .before .before .pre in
-    ((asked .0 .0, asked .0 .1, asked .0 .2, asked .0 .3), (fit-wide (asked .0 .3) (asked .1 .0), (c .before .before .before .before .before .before .before .before .before .before .before .before .before .before .before .before .chain-edges .ensures, (c .before .before .before .before .before .before .before .before .before .before .before .before .mark-followers .ensures, c .before .before .before .before .before .before .loop2 .inv .0))))
+    let asked = c .before .before .before .before .before .before .before .before .before .before .before .before .before .before .before .before .before .before .before .before .before .pre in
+    ((asked .0 .0, asked .0 .1, asked .0 .2, asked .0 .3), (fit-wide (asked .0 .3) (asked .1 .0), (c .before .before .before .before .before .before .before .before .before .before .before .before .before .chain-edges .ensures, (c .before .before .before .before .before .before .before .before .before .mark-followers .ensures .0, c .before .before .before .before .before .loop2 .inv .0))))
 
 loop2-less : tie.Need-loop2-less Inv-loop μ-loop Inv-loop2 μ-loop2
-loop2-less c = left-less (c .before .before .before .before .before .before .before .before .before .before .loop2 .again) (c .before .before .before .sweep .result) (c .before .before .before .before .before .before .before .before .before .loop2-test .taken) (c .before .before .before .sweep .ensures .fallen)
+loop2-less c = left-less (c .before .before .before .before .before .before .before .before .loop2 .again) (c .before .before .sweep .result .changed) (c .before .before .before .before .before .before .before .loop2-test .taken) (c .before .before .sweep .ensures .fallen)
 
 loop2-again : tie.Need-loop2-again Inv-loop μ-loop Inv-loop2 μ-loop2
 loop2-again c =
-    let said = c .before .before .before .sweep .ensures in
+    let said = c .before .before .sweep .ensures in
     (said .going, λ q x l. said .clear q x (omega arith) l)
 
 same-length : tie.Need-same-length Inv-loop μ-loop Inv-loop2 μ-loop2
-same-length c = c .before .loop2 .inv .0 .sound .size ∙ sym (c .before .before .before .before .before .before .before .before .before .before .before .before .before .before .before .before .before .before .before .pre .1 .1 .size)
+same-length c = c .before .loop2 .inv .0 .sound .size ∙ sym (c .before .before .before .before .before .before .before .before .before .before .before .before .before .before .before .before .before .pre .1 .1 .size)
 
 returns : tie.Need-returns Inv-loop μ-loop Inv-loop2 μ-loop2
 returns c =
-    let start = c .before .before .before .before .before .before .before .before .before .before .before .before .before .before .before .before .before .before .before in
+    let start = c .before .before .before .before .before .before .before .before .before .before .before .before .before .before .before .before .before in
     let inv = c .before .loop2 .inv in
     (inv .0 .sound .size, settled (start .pre .0 .3) (start .pre .1 .0) (inv .0) (inv .1 (c .loop2-test .left)))
 
@@ -130,17 +125,13 @@ settle-spec =
     slice-aggregate-sweep-along
     slice-aggregate-sweep-along-2
     slice-aggregate-sweep-along-3
-    slice-aggregate-sweep-along-4
     sweep-along-requires
     loop-less
     loop-again
-    slice-aggregate-any-marked
-    any-marked-requires
     loop2-holds
     slice-aggregate-sweep
     slice-aggregate-sweep-2
     slice-aggregate-sweep-3
-    slice-aggregate-sweep-4
     sweep-requires
     loop2-less
     loop2-again

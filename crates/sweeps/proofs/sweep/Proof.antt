@@ -9,40 +9,42 @@ use Rattle.sweeps.proofs.sweep.Statement.{statement}
 use Rattle.sweeps.proofs.sweep.Tie as tie
 
 abbrev Inv-loop : tie.InvT-loop
-Inv-loop tasks source sink delay first next follows table₀ stale₀ changed₀ v₀ table stale changed v = (v ≤ tasks) × Swept (edgesOf source sink delay) tasks v table₀ table stale changed
+Inv-loop tasks source sink delay first next follows table₀ marked stale₀ changed₀ v₀ table stale changed v =
+    (v ≤ tasks) × Swept (edgesOf source sink delay) tasks v table₀ table stale changed
 
 abbrev μ-loop : tie.MeasureT-loop
-μ-loop tasks source sink delay first next follows table₀ stale₀ changed₀ v₀ table stale changed v = v
+μ-loop tasks source sink delay first next follows table₀ marked stale₀ changed₀ v₀ table stale changed v = v
 
 loop-holds : tie.Need-loop-holds Inv-loop μ-loop
-loop-holds c = (omega arith, swept-none (c .before .before .before .before .before .before .before .before .args .tasks) (c .before .before .before .before .before .before .before .before .pre .1 .1 .1 .1))
+loop-holds c = (omega arith, swept-none (c .before .before .before .before .before .before .before .args .tasks) (c .before .before .before .before .before .before .before .pre .1 .1 .1 .1))
 
 sub-v : tie.Need-sub-v Inv-loop μ-loop
-sub-v c = omega (arith)
+sub-v c = omega arith
 
 look-at-requires : tie.Need-look-at-requires Inv-loop μ-loop
 look-at-requires c κs =
-    let asked = c .before .before .before .before .before .before .before .before .before .before .before .before .pre in
-    ((asked .0 .0, asked .0 .1, asked .0 .2, omega (arith, asked .0 .3, c .before .before .before .loop .inv .0, c .before .before .loop-test .taken)), (asked .1 .0, (asked .1 .1 .0, (asked .1 .1 .1 .0, c .before .before .before .loop .inv .1 .going))))
+    let asked = c .before .before .before .before .before .before .before .before .before .before .pre in
+    ((asked .0 .0, asked .0 .1, asked .0 .2, omega (arith, asked .0 .3, c .before .before .loop .inv .0, c .before .loop-test .taken)), (asked .1 .0, (asked .1 .1 .0, (asked .1 .1 .1 .0, c .before .before .loop .inv .1 .going))))
 
 loop-less : tie.Need-loop-less Inv-loop μ-loop
-loop-less c = omega (arith)
+loop-less c = omega arith
 
 loop-again : tie.Need-loop-again Inv-loop μ-loop
 loop-again c =
-    let number : c .before .before .before .before .before .before .before .before .loop .v ≡ c .before .before .before .before .before .before .before .before .loop .v - 1 + 1 = omega arith in
-    (omega arith, swept-more number (c .before .before .before .before .before .before .before .before .loop .inv .1) (c .before .before .before .before .look-at .ensures))
+    let loop = c .before .before .before .before .before .before .loop in
+    let number : loop .v ≡ loop .v - 1 + 1 = omega arith in
+    (omega arith, swept-more number (loop .inv .1) (c .before .before .before .look-at .ensures))
 
 same-length : tie.Need-same-length Inv-loop μ-loop
-same-length c = c .before .loop .inv .1 .going .sound .size ∙ sym (c .before .before .before .before .before .before .before .before .before .before .pre .1 .1 .1 .1 .sound .size)
-
-same-length-2 : tie.Need-same-length-2 Inv-loop μ-loop
-same-length-2 c = c .before .loop .inv .1 .going .marks ∙ sym (c .before .before .before .before .before .before .before .before .before .before .pre .1 .1 .1 .1 .marks)
+same-length c = c .before .loop .inv .1 .going .sound .size ∙ sym (c .before .before .before .before .before .before .before .before .before .pre .1 .1 .1 .1 .sound .size)
 
 returns : tie.Need-returns Inv-loop μ-loop
 returns c =
-    let whole : c .before .loop .v ≡ 0 = omega arith in
-    subst (λ (v : ℕ). Swept (edgesOf (c .before .before .before .before .before .before .before .before .before .before .args .source .now) (c .before .before .before .before .before .before .before .before .before .before .args .sink .now) (c .before .before .before .before .before .before .before .before .before .before .args .delay .now)) (c .before .before .before .before .before .before .before .before .before .before .args .tasks) v (c .before .before .before .before .before .before .before .before .before .before .args .table .now) (c .before .loop .table) (c .before .loop .stale) (c .before .loop .changed)) whole (c .before .loop .inv .1)
+    let args = c .before .before .before .before .before .before .before .before .before .args in
+    let loop = c .before .loop in
+    let whole : loop .v ≡ 0 = omega arith in
+    subst (λ (v : ℕ). Swept (edgesOf (args .source .now) (args .sink .now) (args .delay .now)) (args .tasks) v (args .table .now) (loop .table) (loop .stale) (loop .changed)) whole
+    (loop .inv .1)
 
 pub sweep-spec : {M : Type 1} → statement M
 sweep-spec =
@@ -56,5 +58,4 @@ sweep-spec =
     loop-less
     loop-again
     same-length
-    same-length-2
     returns)

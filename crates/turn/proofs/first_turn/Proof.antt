@@ -1,8 +1,8 @@
 -- `turn::first_turn` meets its contract: the words hold the edges of delay 0, and the walk over them takes all tasks if it is found.
 use native.Mathlib.Omega.{arith}
 use borrow.Author.Needs.{needs}
-use Rattle.waits.proofs.Ends.{ends-inside}
-use Rattle.turn.proofs.Words.{free-test}
+use Rattle.sets.proofs.Words.{ends-small}
+use Rattle.turn.proofs.Free.{free-test}
 use Rattle.turn.proofs.Walking.{sinks-inside, walked-turned}
 use Rattle.turn.proofs.first_turn.Statement.{statement}
 use Rattle.turn.proofs.first_turn.Tie as tie
@@ -22,7 +22,7 @@ take-edges-requires c κs =
     let pre = c .before .before .before .before .before .before .before .before .before .before .before .pre in (
       pre .0,
       (
-        λ j l. let inside = ends-inside (args .source .now) (args .sink .now) (args .delay .now) _ (pre .1 .1 .0) j l in (omega (arith, inside .0, pre .1 .0 .1), omega (arith, inside .1, pre .1 .0 .1)),
+        ends-small (args .source .now) (args .sink .now) (args .delay .now) (pre .1 .0 .1) (pre .1 .1 .0),
         (c .before .before .before .before .no-edges .ensures .0, c .before .before .before .before .no-edges .ensures .1),
       ),
     )

@@ -3,11 +3,11 @@ use mathlib.Core.Path.{_≡_, refl, sym, _∙_, subst}
 use Prim.Native.Nat.{ℕ, _-_, _≤_, _<_}
 use native.Mathlib.Omega.{arith}
 use lib.ListN.{length, getD, length-set}
+use borrow.Author.Tests.{eqb-true}
 use Rattle.records.specs.Columns.{at}
+use Rattle.sets.proofs.Tasks.{never, apart-bits, all-bits}
 use Rattle.turn.specs.Turn.{Walked}
-use Rattle.turn.proofs.Tasks.{never}
-use Rattle.turn.proofs.Words.{same-task}
-use Rattle.turn.proofs.Walking.{apart-bits, all-bits, walked-none, walked-more}
+use Rattle.turn.proofs.Walking.{walked-none, walked-more}
 use Rattle.turn.proofs.walk_tasks.Statement.{statement}
 use Rattle.turn.proofs.walk_tasks.Tie as tie
 
@@ -145,7 +145,7 @@ returns-4 c =
       loop .inv .1 .size,
       (
         λ found. subst (λ (m : ℕ). Walked (args .sinks .now) (args .time .now) n (args .input) m (loop .done) (loop .reached) (loop .row)) whole (loop .inv .1),
-        λ found v l. all-bits (loop .done) (c .first-tasks .result) (same-task _ _ found) v (c .first-tasks .ensures v l),
+        λ found v l. all-bits (loop .done) (c .first-tasks .result) (eqb-true _ _ found) v (c .first-tasks .ensures v l),
       ),
     )
 

@@ -1,4 +1,4 @@
--- `updates::add_pair` meets its contract: the copies hold the delays as they were, by whose rows both lists fall, and the counts follow.
+-- `updates::add_pair` meets its contract: the old lists hold the delays as they were, by whose rows both lists fall; the counts follow, and the old lists.
 use mathlib.Core.Path.{_≡_}
 use mathlib.Core.List.{List}
 use Prim.Native.Nat.{ℕ, _*_, _≤_}
@@ -11,56 +11,25 @@ use borrow.Author.Needs.{needs}
 use Rattle.updates.proofs.add_pair.Statement.{statement}
 use Rattle.updates.proofs.add_pair.Tie as tie
 
--- what the copies hold, and that it is what was handed over
-abbrev begin : tie.After-copy2 → tie.Start
-begin d = d .before .before .before .before .before .before .before .before .before .before .before .before .before .before .before .before
+-- what the old lists hold
+from-same : (s : tie.Start) → Fronts (s .args .tasks * 64) (s .args .from .now) (s .args .old-from .now)
+from-same s = s .pre .1 .1 .1 .1 .0 .0
 
-abbrev kept-from : tie.After-copy2 → List ℕ
-kept-from d = d .before .before .before .before .before .copy .last .1 .1 .0
+to-same : (s : tie.Start) → Fronts (s .args .tasks * 64) (s .args .to .now) (s .args .old-to .now)
+to-same s = s .pre .1 .1 .1 .1 .0 .1
 
-abbrev kept-to : tie.After-copy2 → List ℕ
-kept-to d = d .copy2 .last .1 .1 .0
+from-room : (s : tie.Start) → s .args .tasks * 64 ≤ length (s .args .old-from .now)
+from-room s = s .pre .1 .1 .1 .0 .0
 
-from-same : (d : tie.After-copy2) → Fronts (begin d .args .tasks * 64) (begin d .args .from .now) (kept-from d)
-from-same d = d .before .before .before .before .before .copy .ensures
+to-room : (s : tie.Start) → s .args .tasks * 64 ≤ length (s .args .old-to .now)
+to-room s = s .pre .1 .1 .1 .0 .1
 
-to-same : (d : tie.After-copy2) → Fronts (begin d .args .tasks * 64) (begin d .args .to .now) (kept-to d)
-to-same d = d .copy2 .ensures
+-- and the rows lent of them
+from-row : (s : tie.Start) → (length (rowOf (s .args .b) (s .args .old-from .now)) ≡ 64) × Small (rowOf (s .args .b) (s .args .old-from .now))
+from-row s = kept-row (s .args .b) (s .pre .1 .1 .0 .2) (from-same s) (from-room s) (s .pre .1 .0 .2)
 
-from-size : (d : tie.After-copy2) → length (kept-from d) ≡ length (begin d .args .old-from .now)
-from-size d = d .before .before .before .before .before .copy .kept .1 .1 .0
-
-to-size : (d : tie.After-copy2) → length (kept-to d) ≡ length (begin d .args .old-to .now)
-to-size d = d .copy2 .kept .1 .1 .0
-
-from-room : (d : tie.After-copy2) → begin d .args .tasks * 64 ≤ length (kept-from d)
-from-room d = omega (arith, from-size d, begin d .pre .1 .1 .1 .0 .0)
-
-to-room : (d : tie.After-copy2) → begin d .args .tasks * 64 ≤ length (kept-to d)
-to-room d = omega (arith, to-size d, begin d .pre .1 .1 .1 .0 .1)
-
-from-row :
-    (d : tie.After-copy2) → (length (rowOf (begin d .args .b) (kept-from d)) ≡ 64) × Small (rowOf (begin d .args .b) (kept-from d))
-from-row d =
-    let asked = begin d .pre .1 in
-    kept-row (begin d .args .b) (asked .1 .0 .2) (from-same d) (from-room d) (asked .0 .2)
-
-to-row : (d : tie.After-copy2) → (length (rowOf (begin d .args .a) (kept-to d)) ≡ 64) × Small (rowOf (begin d .args .a) (kept-to d))
-to-row d =
-    let asked = begin d .pre .1 in
-    kept-row (begin d .args .a) (asked .1 .0 .1) (to-same d) (to-room d) (asked .0 .3)
-
-mul-copy : tie.Need-mul-copy
-mul-copy c = search needs
-
-copy-requires : tie.Need-copy-requires
-copy-requires c κs = search needs
-
-mul-copy-2 : tie.Need-mul-copy-2
-mul-copy-2 c = search needs
-
-copy-requires-2 : tie.Need-copy-requires-2
-copy-requires-2 c κs = search needs
+to-row : (s : tie.Start) → (length (rowOf (s .args .a) (s .args .old-to .now)) ≡ 64) × Small (rowOf (s .args .a) (s .args .old-to .now))
+to-row s = kept-row (s .args .a) (s .pre .1 .1 .0 .1) (to-same s) (to-room s) (s .pre .1 .0 .3)
 
 mul-start-to : tie.Need-mul-start-to
 mul-start-to c = search needs
@@ -103,16 +72,14 @@ slice-aggregate-join-rows c = search needs
 
 join-rows-requires : tie.Need-join-rows-requires
 join-rows-requires c κs =
-    let d = c .before .before .before .before .before .before .before .before in
-    let asked = begin d .pre .1 in
-    let way = to-row d in
-    let onward = from-row d in
+    let begin = c .before .before .before .before .before .before .before .before .before .before .before .before .before .before in
+    let asked = begin .pre .1 in
+    let way = to-row begin in
+    let onward = from-row begin in
     ((asked .1 .0 .0, way .0, onward .0, asked .0 .0, length-replicate {A = ℕ} 64 0), (way .1, onward .1, asked .0 .2))
 
 mul-join-rows-3 : tie.Need-mul-join-rows-3
-mul-join-rows-3 c =
-    let few = c .before .before .before .before .before .before .before .before .before .before .before .before .before .before .before .before .before .before .before .before .before .before .before .before .before .before .before .before .pre .1 .1 .0 in
-    omega (arith, few .0, few .2)
+mul-join-rows-3 c = search needs
 
 sub-join-rows-3 : tie.Need-sub-join-rows-3
 sub-join-rows-3 c = search needs
@@ -121,14 +88,10 @@ part-join-rows-start-3 : tie.Need-part-join-rows-start-3
 part-join-rows-start-3 c = search needs
 
 part-join-rows-end-3 : tie.Need-part-join-rows-end-3
-part-join-rows-end-3 c =
-    let d = c .before .before .before .before .before .before .before .before .before .before .before .before .before in
-    omega (arith, from-room d, begin d .pre .1 .1 .0 .2)
+part-join-rows-end-3 c = search needs
 
 mul-join-rows-4 : tie.Need-mul-join-rows-4
-mul-join-rows-4 c =
-    let few = c .before .before .before .before .before .before .before .before .before .before .before .before .before .before .before .before .before .before .before .before .before .before .before .before .before .before .before .before .before .before .pre .1 .1 .0 in
-    omega (arith, few .0, few .1)
+mul-join-rows-4 c = search needs
 
 sub-join-rows-4 : tie.Need-sub-join-rows-4
 sub-join-rows-4 c = search needs
@@ -137,19 +100,17 @@ part-join-rows-start-4 : tie.Need-part-join-rows-start-4
 part-join-rows-start-4 c = search needs
 
 part-join-rows-end-4 : tie.Need-part-join-rows-end-4
-part-join-rows-end-4 c =
-    let d = c .before .before .before .before .before .before .before .before .before .before .before .before .before .before .before in
-    omega (arith, to-room d, begin d .pre .1 .1 .0 .1)
+part-join-rows-end-4 c = search needs
 
 slice-aggregate-join-rows-2 : tie.Need-slice-aggregate-join-rows-2
 slice-aggregate-join-rows-2 c = search needs
 
 join-rows-requires-2 : tie.Need-join-rows-requires-2
 join-rows-requires-2 c κs =
-    let d = c .before .before .before .before .before .before .before .before .before .before .before .before .before .before .before .before .before .before in
-    let asked = begin d .pre .1 in
-    let way = from-row d in
-    let onward = to-row d in
+    let begin = c .before .before .before .before .before .before .before .before .before .before .before .before .before .before .before .before .before .before .before .before .before .before .before .before in
+    let asked = begin .pre .1 in
+    let way = from-row begin in
+    let onward = to-row begin in
     ((asked .1 .0 .0, way .0, onward .0, asked .0 .1, length-replicate {A = ℕ} 64 0), (way .1, onward .1, asked .0 .3))
 
 slice-aggregate-shift-edges : tie.Need-slice-aggregate-shift-edges
@@ -160,29 +121,55 @@ slice-aggregate-shift-edges-2 c = search needs
 
 shift-edges-requires : tie.Need-shift-edges-requires
 shift-edges-requires c κs =
-    let d = c .before .before .before .before .before .before .before .before .before .before .before .before .before .before .before .before .before .before .before .before .before .before .before .before .before .before .before .before .before in
-    let asked = begin d .pre in
+    let begin = c .before .before .before .before .before .before .before .before .before .before .before .before .before .before .before .before .before .before .before .before .before .before .before .before .before .before .before .before .before .before .before .before .before .before .before in
+    let asked = begin .pre in
     let few = asked .1 .1 .0 in
     let rows = c .before .before .before .before .before .before .before .before .before .before .before .before .before .before .before .before .before .before .before .before .join-rows .ensures in
     let columns = c .before .before .before .before .before .before .before .before .before .before .join-rows2 .ensures in (
       asked .0,
       (
-        (from-room d, to-room d, omega (arith, rows .size, asked .1 .0 .0), omega (arith, columns .size, asked .1 .0 .1)),
+        (from-room begin, to-room begin, omega (arith, rows .size, asked .1 .0 .0), omega (arith, columns .size, asked .1 .0 .1)),
         (
           (rows .fell-size, columns .fell-size),
           (
-            (fell-kept (from-same d) (rows .falls), fell-kept (to-same d) (columns .falls)),
+            (fell-kept (from-same begin) (rows .falls), fell-kept (to-same begin) (columns .falls)),
             (
-              (rows-kept (begin d .args .tasks) (to-same d) (asked .1 .0 .3), λ i l. columns .small i),
-              (few, counts-kept (from-same d) (to-same d) (few .0) (few .3) (asked .1 .1 .1 .1)),
+              (rows-kept (begin .args .tasks) (to-same begin) (asked .1 .0 .3), λ i l. columns .small i),
+              (few, counts-kept (from-same begin) (to-same begin) (few .0) (few .3) (asked .1 .1 .1 .1 .1)),
             ),
           ),
         ),
       ),
     )
 
+slice-aggregate-copy-fallen : tie.Need-slice-aggregate-copy-fallen
+slice-aggregate-copy-fallen c = search needs
+
+copy-fallen-requires : tie.Need-copy-fallen-requires
+copy-fallen-requires c κs =
+    let begin = c .before .before .before .before .before .before .before .before .before .before .before .before .before .before .before .before .before .before .before .before .before .before .before .before .before .before .before .before .before .before .before .before .before .before .before .before .before .before .before .before .before in
+    let asked = begin .pre .1 in
+    let rows = c .before .before .before .before .before .before .before .before .before .before .before .before .before .before .before .before .before .before .before .before .before .before .before .before .before .before .join-rows .ensures in
+    let columns = c .before .before .before .before .before .before .before .before .before .before .before .before .before .before .before .before .join-rows2 .ensures in (
+      (asked .1 .0 .0, omega (arith, rows .size, asked .0 .0), from-room begin, omega (arith, rows .fell-size, columns .fell-size)),
+      (rows .small, fell-kept (from-same begin) (rows .falls)),
+    )
+
+slice-aggregate-copy-fallen-2 : tie.Need-slice-aggregate-copy-fallen-2
+slice-aggregate-copy-fallen-2 c = search needs
+
+copy-fallen-requires-2 : tie.Need-copy-fallen-requires-2
+copy-fallen-requires-2 c κs =
+    let begin = c .before .before .before .before .before .before .before .before .before .before .before .before .before .before .before .before .before .before .before .before .before .before .before .before .before .before .before .before .before .before .before .before .before .before .before .before .before .before .before .before .before .before .before .before .before .before .before in
+    let asked = begin .pre .1 in
+    let rows = c .before .before .before .before .before .before .before .before .before .before .before .before .before .before .before .before .before .before .before .before .before .before .before .before .before .before .before .before .before .before .before .before .join-rows .ensures in
+    let columns = c .before .before .before .before .before .before .before .before .before .before .before .before .before .before .before .before .before .before .before .before .before .before .join-rows2 .ensures in (
+      (asked .1 .0 .0, omega (arith, columns .size, asked .0 .1), to-room begin, omega (arith, rows .fell-size, columns .fell-size)),
+      (columns .small, fell-kept (to-same begin) (columns .falls)),
+    )
+
 same-length : tie.Need-same-length
-same-length c = search needs
+same-length c = c .before .before .before .before .before .before .before .before .before .before .before .before .before .before .before .before .before .before .before .before .before .before .before .before .before .before .before .before .before .before .before .before .before .before .before .join-rows .ensures .size
 
 same-length-2 : tie.Need-same-length-2
 same-length-2 c = search needs
@@ -191,31 +178,30 @@ same-length-3 : tie.Need-same-length-3
 same-length-3 c = search needs
 
 same-length-4 : tie.Need-same-length-4
-same-length-4 c = from-size (c .before .before .before .before .before .before .before .before .before .before .before .before .before .before .before .before .before .before .before .before .before .before .before .before .before .before .before .before .before .before .before .before)
+same-length-4 c = search needs
 
 same-length-5 : tie.Need-same-length-5
-same-length-5 c = to-size (c .before .before .before .before .before .before .before .before .before .before .before .before .before .before .before .before .before .before .before .before .before .before .before .before .before .before .before .before .before .before .before .before)
+same-length-5 c = search needs
 
 returns : tie.Need-returns
 returns c =
-    let d = c .before .before .before .before .before .before .before .before .before .before .before .before .before .before .before .before .before .before .before .before .before .before .before .before .before .before .before .before .before .before .before .before in
-    let asked = begin d .pre .1 in
-    let args = begin d .args in
+    let begin = c .before .before .before .before .before .before .before .before .before .before .before .before .before .before .before .before .before .before .before .before .before .before .before .before .before .before .before .before .before .before .before .before .before .before .before .before .before .before .before .before .before .before .before .before .before .before .before .before .before .before in
+    let asked = begin .pre .1 in
+    let args = begin .args in
     let few = asked .1 .0 in (
-      pair-added (from-same d) (to-same d) (few .0) (few .1) (few .2) (asked .0 .0) (asked .0 .1) (from-room d) (to-room d)
-          (c .before .before .before .before .before .before .before .before .before .before .before .before .before .before .before .before .before .before .before .before .before .before .before .join-rows .ensures) (c .before .before .before .before .before .before .before .before .before .before .before .before .before .join-rows2 .ensures),
-      counts-after (from-same d) (to-same d) (edgesOf (args .source .now) (args .sink .now) (args .delay .now)) (args .a) (args .b)
-          (omega (arith, few .0, few .1)) (omega (arith, few .0, few .2)) (few .3) (c .before .before .shift-edges .ensures),
+      pair-added (from-same begin) (to-same begin) (few .0) (few .1) (few .2) (asked .0 .0) (asked .0 .1) (from-room begin) (to-room begin)
+          (c .before .before .before .before .before .before .before .before .before .before .before .before .before .before .before .before .before .before .before .before .before .before .before .before .before .before .before .before .before .before .before .before .before .before .before .join-rows .ensures) (c .before .before .before .before .before .before .before .before .before .before .before .before .before .before .before .before .before .before .before .before .before .before .before .before .before .join-rows2 .ensures),
+      (
+        counts-after (from-same begin) (to-same begin) (edgesOf (args .source .now) (args .sink .now) (args .delay .now)) (args .a) (args .b)
+            (omega (arith, few .0, few .1)) (omega (arith, few .0, few .2)) (few .3) (c .before .before .before .before .before .before .before .before .before .before .before .before .before .before .shift-edges .ensures),
+        (c .before .before .before .before .before .before .before .before .copy-fallen .ensures, c .before .before .copy-fallen2 .ensures),
+      ),
     )
 
 pub add-pair-spec : {M : Type 1} → statement M
 add-pair-spec =
     tie.close
     (tie.spec
-    mul-copy
-    copy-requires
-    mul-copy-2
-    copy-requires-2
     mul-start-to
     add-end-to
     mul-start-from
@@ -243,6 +229,10 @@ add-pair-spec =
     slice-aggregate-shift-edges
     slice-aggregate-shift-edges-2
     shift-edges-requires
+    slice-aggregate-copy-fallen
+    copy-fallen-requires
+    slice-aggregate-copy-fallen-2
+    copy-fallen-requires-2
     same-length
     same-length-2
     same-length-3

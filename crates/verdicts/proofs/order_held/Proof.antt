@@ -1,4 +1,5 @@
 -- `verdicts::order_held` meets its contract: the least delay between the edge's ends decides its order.
+use mathlib.Core.Path.{refl}
 use native.Mathlib.Omega.{arith}
 use borrow.Author.Needs.{needs}
 use Rattle.verdicts.proofs.Tables.{order-by-least}
@@ -9,18 +10,21 @@ slice-aggregate-least-row : tie.Need-slice-aggregate-least-row
 slice-aggregate-least-row c = search needs
 
 least-row-requires : tie.Need-least-row-requires
-least-row-requires c κs = search needs
+least-row-requires c κs =
+    let asked = c .before .before .pre in
+    ((asked .0, asked .1, asked .2), refl)
 
 mul-result : tie.Need-mul-result
-mul-result c = search needs
+mul-result c = omega (arith, c .before .before .before .before .pre .0, c .before .before .before .before .pre .3)
 
 array-read-result : tie.Need-array-read-result
-array-read-result c = search needs
+array-read-result c = omega (arith, c .before .before .before .before .pre .0, c .before .before .before .before .pre .3, c .before .least-row .ensures .0)
 
 returns : tie.Need-returns
-returns c = λ n ends.
-    let args = c .before .before .before .before .before .before .args in
-    order-by-least n (args .source) (args .sink) _ (args .delay) (omega (arith, c .before .before .before .before .before .before .fits .delay)) ends (c .before .least-row .ensures .1 (args .sink) (c .before .before .before .before .before .before .pre .1 .0))
+returns c = λ rs steps.
+    let start = c .before .before .before .before in
+    let args = start .args in
+    order-by-least (args .tasks) (args .source) (args .sink) _ (args .delay) (omega (arith, start .fits .delay)) (steps .ends) (c .before .least-row .ensures .1 rs steps (args .sink) (start .pre .3))
 
 pub order-held-spec : {M : Type 1} → statement M
 order-held-spec =

@@ -1,19 +1,14 @@
--- `verdicts::take_steps` meets its contract: whatever entry is lowered is lowered to the delay of an edge with these ends.
-use mathlib.Core.Path.{refl}
-use mathlib.Core.Logic.{inl, inr, ⊎-elim}
-use Prim.Native.Nat.{ℕ, _+_, _*_, _-_, _≤_}
+-- `verdicts::take_steps` meets its contract: after j edges the square holds the steps of these.
+use Prim.Native.Nat.{_-_, _≤_}
 use native.Mathlib.Omega.{arith}
 use borrow.Author.Needs.{needs}
-use lib.ListN.{length, getD}
-use Rattle.records.specs.Columns.{heldEdge, edgesOf}
-use Rattle.records.proofs.Edges.{edge-in}
-use Rattle.verdicts.specs.Tables.{Stepped}
-use Rattle.verdicts.proofs.Tables.{edge-place, no-steps, step-taken}
+use lib.ListN.{length}
+use Rattle.verdicts.proofs.Tables.{Taken, edge-place, none-taken, one-taken, all-taken}
 use Rattle.verdicts.proofs.take_steps.Statement.{statement}
 use Rattle.verdicts.proofs.take_steps.Tie as tie
 
 abbrev Inv-loop : tie.InvT-loop
-Inv-loop source sink delay tasks square₀ j₀ square j = (j ≤ length source) × Stepped tasks (length square₀) (edgesOf source sink delay) square
+Inv-loop source sink delay tasks square₀ j₀ square j = (j ≤ length source) × Taken tasks (length square₀) source sink delay j square
 
 abbrev μ-loop : tie.MeasureT-loop
 μ-loop source sink delay tasks square₀ j₀ square j = length source - j
@@ -21,7 +16,7 @@ abbrev μ-loop : tie.MeasureT-loop
 loop-holds : tie.Need-loop-holds Inv-loop μ-loop
 loop-holds c =
     let start = c .before .before .before .before in
-    (omega arith, no-steps (start .args .tasks) (length (start .args .square .now)) (edgesOf (start .args .source .now) (start .args .sink .now) (start .args .delay .now)) (start .pre .1 .0 .2))
+    (omega arith, none-taken (start .args .source .now) (start .args .sink .now) (start .args .delay .now) (start .pre .1 .0 .1) (start .pre .1 .0 .2))
 
 shared-slice-read-at : tie.Need-shared-slice-read-at Inv-loop μ-loop
 shared-slice-read-at c = omega arith
@@ -57,7 +52,7 @@ slice-read-lesser : tie.Need-slice-read-lesser Inv-loop μ-loop
 slice-read-lesser c =
     let start = c .before .before .before .before .before .before .before .before .before in
     let place = edge-place (start .args .source .now) (start .args .sink .now) (start .args .delay .now) (c .before .before .before .before .loop .j) (start .pre .1 .0 .0) (start .pre .1 .1) (c .before .before .before .loop-test .taken) in
-    omega (arith, place, start .pre .1 .0 .1, c .before .before .before .before .loop .inv .1 .room)
+    omega (arith, place, start .pre .1 .0 .1, c .before .before .before .before .loop .inv .1 .size)
 
 shared-slice-read-lesser : tie.Need-shared-slice-read-lesser Inv-loop μ-loop
 shared-slice-read-lesser c = omega (arith, c .before .before .before .before .before .before .before .before .before .before .pre .0 .1)
@@ -78,7 +73,7 @@ slice-write-square : tie.Need-slice-write-square Inv-loop μ-loop
 slice-write-square c =
     let start = c .before .before .before .before .before .before .before .before .before .before .before in
     let place = edge-place (start .args .source .now) (start .args .sink .now) (start .args .delay .now) (c .before .before .before .before .before .before .loop .j) (start .pre .1 .0 .0) (start .pre .1 .1) (c .before .before .before .before .before .loop-test .taken) in
-    omega (arith, place, start .pre .1 .0 .1, c .before .before .before .before .before .before .loop .inv .1 .room)
+    omega (arith, place, start .pre .1 .0 .1, c .before .before .before .before .before .before .loop .inv .1 .size)
 
 add-j : tie.Need-add-j Inv-loop μ-loop
 add-j c = omega arith
@@ -87,25 +82,21 @@ loop-less : tie.Need-loop-less Inv-loop μ-loop
 loop-less c = omega arith
 
 loop-again : tie.Need-loop-again Inv-loop μ-loop
-unfolding heldEdge
 loop-again c =
     let start = c .before .before .before .before .before .before .before .before .before .before .before in
-    let j = c .before .before .before .before .before .before .loop .j in
-    let below = c .before .before .before .before .before .loop-test .taken in
-    let source = start .args .source .now in
-    let sink = start .args .sink .now in
-    let delay = start .args .delay .now in
-    let place = edge-place source sink delay j (start .pre .1 .0 .0) (start .pre .1 .1) below in (
+    let below = c .before .before .before .before .before .loop-test .taken in (
       omega arith,
-      step-taken (getD source j 0 * start .args .tasks + getD sink j 0) (c .lesser .result) (c .before .before .before .before .before .before .loop .inv .1) refl (omega (arith, place, start .pre .1 .0 .1))
-          (⊎-elim (λ q. inl q) (λ q. inr (heldEdge source sink delay j, edge-in source sink delay j below, refl, omega (arith, q))) (c .lesser .ensures)),
+      one-taken (start .args .source .now) (start .args .sink .now) (start .args .delay .now) (start .pre .1 .0 .1) (start .pre .1 .1) below (c .before .before .before .before .before .before .loop .inv .1) (c .lesser .ensures),
     )
 
 same-length : tie.Need-same-length Inv-loop μ-loop
-same-length c = c .before .loop .inv .1 .room
+same-length c = c .before .loop .inv .1 .size
 
 returns : tie.Need-returns Inv-loop μ-loop
-returns c = c .before .loop .inv .1
+returns c =
+    let start = c .before .before .before .before .before .before in
+    let loop = c .before .loop in
+    (loop .inv .1 .size, all-taken (start .args .source .now) (start .args .sink .now) (start .args .delay .now) (start .pre .1 .0 .1) (start .pre .1 .1) (c .loop-test .left) (loop .inv .1))
 
 pub take-steps-spec : {M : Type 1} → statement M
 take-steps-spec =

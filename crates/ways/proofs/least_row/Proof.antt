@@ -1,60 +1,63 @@
--- `ways::least_row` meets its contract: passing all edges lowers the row's sum if it changes an entry; if it changes none no edge betters one.
-use mathlib.Core.Path.{_≡_, sym, ap, _∙_}
+-- `ways::least_row` meets its contract: a round that pushes a row lowers the sum of what was seen; after one that pushes none no edge betters an entry.
+use mathlib.Core.Path.{_≡_, refl, sym, ap, _∙_}
 use mathlib.Core.Bool.{true, false, true≢false}
-use Prim.Native.Nat.{ℕ, _+_, _≤_, _<_}
+use Prim.Native.Nat.{ℕ, _+_, _*_, _≤_, _<_}
 use native.Mathlib.Omega.{arith}
 use lib.ListN.{length, getD, length-replicate}
 use Rattle.sweeps.proofs.Settled.{left, left-less}
-use Rattle.ways.specs.Ways.{WaysFrom}
-use Rattle.ways.proofs.Ways.{ways-lowest, left-twice}
+use Rattle.ways.specs.Ways.{Seen}
+use Rattle.ways.proofs.Ways.{row-within, far, seen-start, ways-lowest}
 use Rattle.ways.proofs.least_row.Statement.{statement}
 use Rattle.ways.proofs.least_row.Tie as tie
 
 abbrev Inv-loop : tie.InvT-loop
-Inv-loop source sink delay s row₀ changed₀ row changed =
-    WaysFrom source sink delay s (length source) row
-    × (changed ≡ false → (j : ℕ) → j < length source → getD row (getD sink j 0) 0 ≤ getD row (getD source j 0) 0 + getD delay j 0)
+Inv-loop steps tasks s row₀ seen₀ changed₀ row seen changed =
+    Seen tasks steps s row seen × (changed ≡ false → (u : ℕ) → u < tasks → getD seen u 0 ≤ getD row u 0)
 
 abbrev μ-loop : tie.MeasureT-loop
-μ-loop source sink delay s row₀ changed₀ row changed = left row changed
+μ-loop steps tasks s row₀ seen₀ changed₀ row seen changed = left seen changed
 
-take-edges-requires : tie.Need-take-edges-requires Inv-loop μ-loop
-take-edges-requires c κs = (c .before .before .before .before .before .pre .0, (c .before .before .before .before .before .pre .1 .0, c .before .before .before .before .before .pre .1 .1))
+-- the row of steps out of the task stands in the square
+within : (c : tie.Start Inv-loop μ-loop) → (c .args .s * c .args .tasks + c .args .tasks ≤ length (c .args .steps .now)) × (c .args .s * c .args .tasks ≤ 4096)
+within c = row-within (c .pre .0 .0) (c .pre .0 .1) (c .pre .0 .2)
+
+mul-push-row : tie.Need-mul-push-row Inv-loop μ-loop
+mul-push-row c = record { fits = omega (arith, within (c .before .before) .1) }
+
+push-row-requires : tie.Need-push-row-requires Inv-loop μ-loop
+push-row-requires c κs =
+    let asked = c .before .before .before .pre in
+    let room : length (c .before .before .before .args .row .now) ≡ 64 = ap length (asked .1) ∙ length-replicate {A = ℕ} 64 16383 in
+    ((within (c .before .before .before) .0, omega (arith, room, asked .0 .0), omega arith), λ b l. omega (arith, far (asked .1) b (omega (arith, asked .0 .0))))
 
 loop-holds : tie.Need-loop-holds Inv-loop μ-loop
-loop-holds c = (c .before .before .take-edges .ensures, λ q. absurd (true≢false q))
+loop-holds c =
+    let asked = c .before .before .before .before .before .before .pre in
+    (seen-start (asked .0 .0) (asked .0 .2) (asked .1) refl (c .before .before .push-row .ensures), λ q. absurd (true≢false q))
 
-pass-down-requires : tie.Need-pass-down-requires Inv-loop μ-loop
-pass-down-requires c κs = (c .before .before .before .before .before .before .before .before .before .before .before .pre .0, (c .before .before .before .before .before .before .before .before .before .before .before .pre .1 .0, (c .before .before .before .before .before .before .before .before .before .before .before .args .s, c .before .before .loop .inv .0)))
+slice-aggregate-round : tie.Need-slice-aggregate-round Inv-loop μ-loop
+slice-aggregate-round c = sym (c .before .before .before .loop .inv .0 .room)
 
-pass-up-requires : tie.Need-pass-up-requires Inv-loop μ-loop
-pass-up-requires c κs = (c .before .before .before .before .before .before .before .before .before .before .before .before .before .before .before .before .pre .0, (c .before .before .before .before .before .before .before .before .before .before .before .before .before .before .before .before .pre .1 .0, (c .before .before .before .before .before .before .before .before .before .before .before .before .before .before .before .before .args .s, c .before .before .before .before .pass-down .ensures .ways (c .before .before .before .before .before .before .before .before .before .before .before .before .before .before .before .before .args .s) (c .before .before .before .before .before .before .before .loop .inv .0))))
+round-requires : tie.Need-round-requires Inv-loop μ-loop
+round-requires c κs =
+    let start = c .before .before .before .before .before .before .before .before .before .before in
+    ((start .pre .0 .0, start .pre .0 .1), (start .args .s, c .before .before .before .loop .inv .0))
 
 loop-less : tie.Need-loop-less Inv-loop μ-loop
-loop-less c = left-twice (c .before .before .before .before .before .before .before .before .before .before .loop .changed) (c .before .before .before .before .before .before .before .pass-down .result) (c .before .before .pass-up .result) (c .before .before .before .before .before .before .before .before .before .loop-test .taken) (c .before .before .before .before .if1 .taken) (c .before .before .before .before .before .before .before .pass-down .ensures .fallen) (c .before .before .pass-up .ensures .fallen)
+loop-less c = left-less (c .before .before .before .before .before .before .before .loop .changed) (c .before .before .before .round .result) (c .before .before .before .before .before .before .loop-test .taken) (c .before .before .before .round .ensures .fallen)
 
 loop-again : tie.Need-loop-again Inv-loop μ-loop
 loop-again c =
-    let s = c .before .before .before .before .before .before .before .before .before .before .before .before .before .before .before .before .before .before .before .args .s in
-    let up = c .before .before .pass-up .ensures in
-    (up .ways s (c .before .before .before .before .before .before .before .pass-down .ensures .ways s (c .before .before .before .before .before .before .before .before .before .before .loop .inv .0)), λ q j l. up .idle q j (omega arith) l)
-
-loop-less-2 : tie.Need-loop-less-2 Inv-loop μ-loop
-loop-less-2 c = left-less (c .before .before .before .before .before .before .loop .changed) (c .before .before .before .pass-down .result) (c .before .before .before .before .before .loop-test .taken) (c .before .before .before .pass-down .ensures .fallen)
-
-loop-again-2 : tie.Need-loop-again-2 Inv-loop μ-loop
-loop-again-2 c =
-    let down = c .before .before .before .pass-down .ensures in
-    (down .ways (c .before .before .before .before .before .before .before .before .before .before .before .before .before .before .before .args .s) (c .before .before .before .before .before .before .loop .inv .0), λ q j l. down .idle q j (omega arith) l)
+    let said = c .before .before .before .round .ensures in
+    (said .ways (c .before .before .before .before .before .before .before .before .before .before .before .before .before .before .args .s) (c .before .before .before .before .before .before .before .loop .inv .0), said .idle)
 
 same-length : tie.Need-same-length Inv-loop μ-loop
-same-length c = c .before .loop .inv .0 .size ∙ sym (ap length (c .before .before .before .before .before .before .before .before .before .before .pre .1 .1) ∙ length-replicate {A = ℕ} 64 16383)
+same-length c = c .before .loop .inv .0 .size ∙ sym (ap length (c .before .before .before .before .before .before .before .before .pre .1) ∙ length-replicate {A = ℕ} 64 16383)
 
 returns : tie.Need-returns Inv-loop μ-loop
 returns c =
-    let args = c .before .before .before .before .before .before .before .before .before .before .args in
     let inv = c .before .loop .inv in
-    (inv .0 .size, ways-lowest (args .source .now) (args .sink .now) (args .delay .now) (inv .0) (inv .1 (c .loop-test .left)))
+    (inv .0 .size, ways-lowest (inv .0) (inv .1 (c .loop-test .left)))
 
 pub least-row-spec : {M : Type 1} → statement M
 least-row-spec =
@@ -62,13 +65,12 @@ least-row-spec =
     (tie.spec
     Inv-loop
     μ-loop
-    take-edges-requires
+    mul-push-row
+    push-row-requires
     loop-holds
-    pass-down-requires
-    pass-up-requires
+    slice-aggregate-round
+    round-requires
     loop-less
     loop-again
-    loop-less-2
-    loop-again-2
     same-length
     returns)

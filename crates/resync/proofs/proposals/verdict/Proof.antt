@@ -1,10 +1,6 @@
 -- `resync::proposals::verdict` meets its contract: each way out is an answer that `VerdictAnswer` allows.
-use mathlib.Core.Path.{_≡_, refl}
-use Prim.Native.Nat.{_-_}
-use native.Mathlib.Omega.{arith}
-use lib.ListN.{length, length-take}
+use mathlib.Core.Path.{refl}
 use Rattle.files.specs.Files.{graphOf, proposalOf}
-use Rattle.resync.proofs.Checked.{few-tasks}
 use Rattle.resync.proofs.Verdicts.{graph-refused, proposal-refused, judgeable, judged-answer, sizes}
 use Rattle.records.specs.Columns.{zeros}
 use borrow.Author.Needs.{needs}
@@ -94,51 +90,36 @@ slice-aggregate-judge-7 c = search needs
 slice-aggregate-judge-8 : tie.Need-slice-aggregate-judge-8
 slice-aggregate-judge-8 c = search needs
 
-cast-judge : tie.Need-cast-judge
-cast-judge c = search needs
-
-sub-judge : tie.Need-sub-judge
-sub-judge c = search needs
-
-part-judge-start : tie.Need-part-judge-start
-part-judge-start c = search needs
-
-part-judge-end : tie.Need-part-judge-end
-part-judge-end c =
-    let long : length (c .before .before .before .before .before .before .before .before .before .before .before .before .before .before .before .before .before .before .before .before .before .before .before .before .before .before .before .before .before .before .before .accept-into .last .1 .1 .1 .1 .1 .1 .0) ≡ 64 = c .before .before .before .before .before .before .before .before .before .before .before .before .before .before .before .before .before .before .before .before .before .before .before .before .before .before .before .before .before .before .before .accept-into .kept .1 .1 .1 .1 .1 .1 .0 in
-    omega (arith, long, few-tasks (c .before .before .before .before .before .before .before .before .before .before .before .before .before .before .before .before .before .before .before .before .before .before .before .before .before .before .before .before .before .before .before .before .before .before .before .before .before .before .before .before .args .graph .now) (c .before .before .before .before .before .before .before .before .before .before .before .before .before .before .before .before .before .before .before .before .before .before .before .before .before .before .before .before .before .before .before .accept-into .ensures))
-
 judge-requires : tie.Need-judge-requires
 judge-requires c κs =
-    let long : length (c .before .before .before .before .before .before .before .before .before .before .before .before .before .before .before .before .before .before .before .before .before .before .before .before .before .before .before .before .before .before .before .before .accept-into .last .1 .1 .1 .1 .1 .1 .0) ≡ 64 = c .before .before .before .before .before .before .before .before .before .before .before .before .before .before .before .before .before .before .before .before .before .before .before .before .before .before .before .before .before .before .before .before .accept-into .kept .1 .1 .1 .1 .1 .1 .0 in
-    let args = c .before .before .before .before .before .before .before .before .before .before .before .before .before .before .before .before .before .before .before .before .before .before .before .before .before .before .before .before .before .before .before .before .before .before .before .before .before .before .before .before .before .args in
+    let args = c .before .before .before .before .before .before .before .before .before .before .before .before .before .before .before .before .before .before .before .before .before .before .before .before .before .before .before .before .before .before .before .before .before .before .before .before .before .before .args in
     let s = args .graph .now in
     let p = args .proposal .now in
-    let is = c .before .before .before .before .before .before .before .before .before .before .before .before .before .before .before .before .before .before .before .before .before .before .before .before .before .before .before .before .before .before .before .before .accept-into .ensures in
-    let passed = c .before .before .before .before .before .before .before .before .before .before .before .before .before .before .before .before .before .before .before .before .before .before .before .if1 .left in
-    let read = c .before .before .before .before .before .before .before .before .before .before .before .before .before .before .before .before .before .read-proposal-into .ensures in
-    ((graphOf s, proposalOf p, judgeable s p is passed read (c .before .before .before .before .before .before .before .before .before .before .before .if2 .left)), omega (arith, long, length-take (c .before .before .before .before .before .before .before .before .before .before .before .before .before .before .before .before .before .before .before .before .before .before .before .before .before .before .before .before .before .before .before .before .accept-into .result .numbers .tasks - 0) (c .before .before .before .before .before .before .before .before .before .before .before .before .before .before .before .before .before .before .before .before .before .before .before .before .before .before .before .before .before .before .before .before .accept-into .last .1 .1 .1 .1 .1 .1 .0)))
+    let is = c .before .before .before .before .before .before .before .before .before .before .before .before .before .before .before .before .before .before .before .before .before .before .before .before .before .before .before .before .before .accept-into .ensures in
+    let passed = c .before .before .before .before .before .before .before .before .before .before .before .before .before .before .before .before .before .before .before .before .if1 .left in
+    let read = c .before .before .before .before .before .before .before .before .before .before .before .before .before .before .read-proposal-into .ensures in
+    (graphOf s, proposalOf p, judgeable s p is passed read (c .before .before .before .before .before .before .before .before .if2 .left))
 
 weighed-requires : tie.Need-weighed-requires
 weighed-requires c κs =
-    let args = c .before .before .before .before .before .before .before .before .before .before .before .before .before .before .before .before .before .before .before .before .before .before .before .before .before .before .before .before .before .before .before .before .before .before .before .before .before .before .before .before .before .before .args in
+    let args = c .before .before .before .before .before .before .before .before .before .before .before .before .before .before .before .before .before .before .before .before .before .before .before .before .before .before .before .before .before .before .before .before .before .before .before .before .before .before .before .args in
     let s = args .graph .now in
     let p = args .proposal .now in
-    let is = c .before .before .before .before .before .before .before .before .before .before .before .before .before .before .before .before .before .before .before .before .before .before .before .before .before .before .before .before .before .before .before .before .before .accept-into .ensures in
-    let passed = c .before .before .before .before .before .before .before .before .before .before .before .before .before .before .before .before .before .before .before .before .before .before .before .before .if1 .left in
-    let read = c .before .before .before .before .before .before .before .before .before .before .before .before .before .before .before .before .before .before .read-proposal-into .ensures in
-    let given = judgeable s p is passed read (c .before .before .before .before .before .before .before .before .before .before .before .before .if2 .left) in
-    sizes s p is passed read (c .before .before .before .before .before .before .before .before .before .before .before .before .if2 .left) (c .judge .ensures .0 (graphOf s) (proposalOf p) given)
+    let is = c .before .before .before .before .before .before .before .before .before .before .before .before .before .before .before .before .before .before .before .before .before .before .before .before .before .before .before .before .before .before .accept-into .ensures in
+    let passed = c .before .before .before .before .before .before .before .before .before .before .before .before .before .before .before .before .before .before .before .before .before .if1 .left in
+    let read = c .before .before .before .before .before .before .before .before .before .before .before .before .before .before .before .read-proposal-into .ensures in
+    let given = judgeable s p is passed read (c .before .before .before .before .before .before .before .before .before .if2 .left) in
+    sizes s p is passed read (c .before .before .before .before .before .before .before .before .before .if2 .left) (c .judge .ensures .0 (graphOf s) (proposalOf p) given)
 
 returns-3 : tie.Need-returns-3
 returns-3 c =
-    let args = c .before .before .before .before .before .before .before .before .before .before .before .before .before .before .before .before .before .before .before .before .before .before .before .before .before .before .before .before .before .before .before .before .before .before .before .before .before .before .before .before .before .before .before .args in
+    let args = c .before .before .before .before .before .before .before .before .before .before .before .before .before .before .before .before .before .before .before .before .before .before .before .before .before .before .before .before .before .before .before .before .before .before .before .before .before .before .before .before .args in
     let s = args .graph .now in
     let p = args .proposal .now in
-    let is = c .before .before .before .before .before .before .before .before .before .before .before .before .before .before .before .before .before .before .before .before .before .before .before .before .before .before .before .before .before .before .before .before .before .before .accept-into .ensures in
-    let passed = c .before .before .before .before .before .before .before .before .before .before .before .before .before .before .before .before .before .before .before .before .before .before .before .before .before .if1 .left in
-    let read = c .before .before .before .before .before .before .before .before .before .before .before .before .before .before .before .before .before .before .before .read-proposal-into .ensures in
-    let unread = c .before .before .before .before .before .before .before .before .before .before .before .before .before .if2 .left in
+    let is = c .before .before .before .before .before .before .before .before .before .before .before .before .before .before .before .before .before .before .before .before .before .before .before .before .before .before .before .before .before .before .before .accept-into .ensures in
+    let passed = c .before .before .before .before .before .before .before .before .before .before .before .before .before .before .before .before .before .before .before .before .before .before .if1 .left in
+    let read = c .before .before .before .before .before .before .before .before .before .before .before .before .before .before .before .before .read-proposal-into .ensures in
+    let unread = c .before .before .before .before .before .before .before .before .before .before .if2 .left in
     let given = judgeable s p is passed read unread in
     judged-answer s p is passed read unread (c .before .judge .ensures .0 (graphOf s) (proposalOf p) given)
     (c .before .judge .ensures .1 (graphOf s) (proposalOf p) given) (c .weighed .ensures .0) (c .weighed .ensures .1 .0) (c .weighed .ensures .1 .1)
@@ -171,10 +152,6 @@ verdict-spec =
     slice-aggregate-judge-6
     slice-aggregate-judge-7
     slice-aggregate-judge-8
-    cast-judge
-    sub-judge
-    part-judge-start
-    part-judge-end
     judge-requires
     weighed-requires
     returns-3)
