@@ -1,23 +1,26 @@
 -- An edge f out of the source of an edge e is another way for e exactly if its delay and the table's from its sink on, or nothing where its sink is
 -- that of e, add up to at most the delay of e: the table's entries are least delays, and none counts more than every delay.
-use mathlib.Core.Path.{_≡_, sym, ap, _∙_, subst}
+use mathlib.Core.Path.{_≡_, refl, sym, ap, _∙_, subst}
 use mathlib.Core.Logic.{_⊎_, inl, inr, _≢_}
-use mathlib.Core.List.{List}
+use mathlib.Core.List.{List, [], _∷_}
 use mathlib.Core.Option.{Option, some}
-use Prim.Native.Nat.{ℕ, _+_, _*_, _≤_}
+use Prim.Native.Nat.{ℕ, _+_, _*_, _≤_, _<_}
 use native.Mathlib.Omega.{arith}
 use lib.Dec.{leb, leb→le, le→leb}
 use lib.ListN.{length, getD}
-use Rattle.model.specs.Tasks.{Edge, _∈_}
-use Rattle.model.specs.Paths.{Least, smallest, no-path}
+use Rattle.model.specs.Tasks.{Edge, _∈_, noEdge}
+use Rattle.model.specs.Paths.{total, Walk, stop, step, Path, Least, smallest, no-path}
+use Rattle.model.specs.Compute.{leastDelay}
 use Rattle.model.specs.Theorems.{Decides, Way}
+use Rattle.model.proofs.Basics.{member-place}
 use Rattle.model.proofs.Walks.{path-append}
 use Rattle.model.proofs.Tests.{decides-iff}
 use Rattle.model.proofs.Theorems.{least-delay-is}
-use Rattle.records.specs.Columns.{edgesOf}
+use Rattle.records.specs.Columns.{heldEdge, edgesOf}
+use Rattle.records.proofs.Edges.{edges-length, edge-in, edge-at}
 use Rattle.delays.specs.Delays.{entry, delayTable, Fit}
 use Rattle.delays.proofs.Table.{table-length, table-at}
-use Rattle.redundancy.specs.Redundancy.{Tabled}
+use Rattle.redundancy.specs.Redundancy.{Tabled, WayFor}
 
 -- The table has an entry for every two tasks.
 pub entries : {n : ℕ} {source sink delay table : List ℕ} → Tabled n source sink delay table → length table ≡ n * n
@@ -96,3 +99,66 @@ way-for-way {n} {es} fit e f g way over = record {
     go (inr h) (inl k) =
         let a = h .2 in let b = k .1 in inr (h .0, subst (λ (t : ℕ). Least es t (e .sink) (some (h .0))) (sym (k .0)) (h .1), omega arith)
     go (inr h) (inr k) = inr (shorter (least-delay-is n es (fit .ends) (g .sink) (e .sink)) (k .1) (h .1) (k .2) (h .2))
+
+-- ── A shorter path ──
+
+-- A path between the ends of an edge that has less delay begins with an edge that is a way for it, and has less delay itself.
+pub shorter-begins : {n : ℕ} {es : List Edge} → Fit n es → (e : Edge) {x : ℕ} → Path es (e .source) (e .sink) x → x < e .delay →
+    (f : Edge) × f ∈ es × (f .delay < e .delay) × Way es e f
+unfolding total
+shorter-begins {n} {es} fit e {x} path less = go (path .walk) (path .sum) (omega arith)
+  where
+    rest-least : (f : Edge) {d : ℕ} {o : Option ℕ} → Least es (f .sink) (e .sink) o → Path es (f .sink) (e .sink) d → f .delay + d ≤ e .delay →
+        (y : ℕ) × Least es (f .sink) (e .sink) (some y) × (f .delay + y ≤ e .delay)
+    rest-least f {d} (smallest {d = y} shortest least) rest l = let k = least d rest in (y, smallest shortest least, omega arith)
+    rest-least f {d} (no-path none) rest l = absurd (none d rest)
+
+    go : {p : List Edge} → Walk es (e .source) p (e .sink) → total p ≡ x → 1 ≤ length p → (f : Edge) × f ∈ es × (f .delay < e .delay) × Way es e f
+    go (stop meets) sum one = absurd (omega arith)
+    go (step {e = f} m from (stop meets)) sum one = (f, m, omega arith, record { same-source = from; within = inl (meets, omega arith) })
+    go (step {e = f} m from (step {e = g} {p = p} more on rest)) sum one = (
+      f,
+      m,
+      omega arith,
+      record {
+        same-source = from;
+        within = inr
+            (rest-least f (least-delay-is n es (fit .ends) (f .sink) (e .sink)) (record { first = g; rest = p; walk = step more on rest; sum = refl })
+            (omega arith));
+      },
+    )
+
+-- So an edge whose ends have a smaller entry than its delay has another way.
+pub shorter-way : {n : ℕ} {source sink delay table : List ℕ} → Tabled n source sink delay table → (own : ℕ) → own < length source →
+    getD table (getD source own 0 * n + getD sink own 0) 0 < getD delay own 0 →
+    (j : ℕ) × (j < length source) × (j ≢ own) × WayFor source sink delay own j
+unfolding heldEdge entry
+shorter-way {n} {source} {sink} {delay} {table} tabled own l less =
+    found (least-delay-is n es (tabled .fit .ends) (e .source) (e .sink)) (subst (λ (k : ℕ). k < e .delay) entry-is less)
+  where
+    es : List Edge
+    es = edgesOf source sink delay
+
+    e : Edge
+    e = heldEdge source sink delay own
+
+    in-list : e ∈ es
+    in-list = edge-in source sink delay own l
+
+    entry-is : getD table (e .source * n + e .sink) 0 ≡ entry (leastDelay n es (e .source) (e .sink))
+    entry-is =
+        ap (λ (xs : List ℕ). getD xs (e .source * n + e .sink) 0) (tabled .least) ∙
+        table-at n es (e .source) (e .sink) (tabled .fit .ends e in-list .0) (tabled .fit .ends e in-list .1)
+
+    at-place : (f : Edge) × f ∈ es × (f .delay < e .delay) × Way es e f → (j : ℕ) × (j < length source) × (j ≢ own) × WayFor source sink delay own j
+    at-place (f, m, k, way) =
+        let r = member-place noEdge m in
+        let inside : r .0 < length source = subst (λ (i : ℕ). r .0 < i) (edges-length source sink delay) (r .1) in
+        let is : heldEdge source sink delay (r .0) ≡ f = sym (edge-at source sink delay (r .0) inside) ∙ r .2 in
+        let late : getD delay (r .0) 0 ≡ f .delay = ap (λ (x : Edge). x .delay) is in
+        let other : r .0 ≢ own = λ q. let same : getD delay (r .0) 0 ≡ getD delay own 0 = ap (λ (i : ℕ). getD delay i 0) q in omega arith in
+        (r .0, inside, other, subst (λ (x : Edge). Way es e x) (sym is) way)
+
+    found : {o : Option ℕ} → Least es (e .source) (e .sink) o → entry o < e .delay → (j : ℕ) × (j < length source) × (j ≢ own) × WayFor source sink delay own j
+    found (smallest path least) k = at-place (shorter-begins (tabled .fit) e path k)
+    found (no-path none) k = let few = tabled .fit .delays e in-list in absurd (omega arith)

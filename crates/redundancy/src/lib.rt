@@ -2,6 +2,7 @@
 // edges leave one task, they are gone through once for all sinks.
 ghost use mathlib.Core.Path.{_≡_};
 ghost use mathlib.Core.Logic.{_⊎_, _≢_};
+ghost use mathlib.Core.Bool.{true};
 ghost use Prim.Native.Nat.{ℕ, _+_, _*_, _≤_, _<_, max};
 ghost use lib.ListN.{length, getD, replicate};
 ghost use Rattle.model.specs.Lists.{counted};
@@ -11,7 +12,7 @@ ghost use Rattle.model.specs.Theorems.{Decides, Way};
 ghost use Rattle.records.specs.Columns.{heldEdge, edgesOf};
 ghost use Rattle.delays.specs.Delays.{delayTable, Fit};
 ghost use Rattle.marks.specs.Marks.{number, marksOf};
-ghost use Rattle.redundancy.specs.Redundancy.{HeldGraph, Tabled, Chained, EdgeTaken, RowTaken, Crowds};
+ghost use Rattle.redundancy.specs.Redundancy.{HeldGraph, Tabled, Chained, WayFor, EdgeTaken, RowTaken, Crowds};
 use marks::Marks;
 use sweeps::greater;
 use sweeps::lesser;
@@ -127,6 +128,25 @@ fn further(a: u16, b: u16) -> u16
         return b;
     }
     a
+}
+
+// Whether a path from the source of edge `own` to its sink has less delay: it begins with another edge then, which is a way for it. Asked first, this
+// saves going through the edges out of the source.
+fn has_shorter_path<'a>(
+    source: &'a [u8],
+    sink: &'a [u8],
+    delay: &'a [u8],
+    table: &'a [u16],
+    tasks: usize,
+    own: usize,
+) -> bool
+    requires { ⌜ own < length (now source) ⌝ }
+    requires { ⌜ Tabled tasks (now source) (now sink) (now delay) (now table) ⌝ }
+    ensures { λ r. ⌜ (r ≡ true → (j : ℕ) × (j < length (now (source .entry))) × (j ≢ own) × WayFor (now (source .entry)) (now (sink .entry)) (now (delay .entry)) own j) ⌝ }
+{
+    let from = source[own] as usize;
+    let to = sink[own] as usize;
+    table[from * tasks + to] < delay[own] as u16
 }
 
 // Takes an edge, which leads to task `next` with a delay, into two rows: for each task the least and the second least of the delays of ways to it, each
@@ -256,6 +276,9 @@ fn is_redundant<'a, 'b>(
         if row < ROWS {
             return seconds[row * WIDTH + sink[own] as usize] <= delay[own] as u16;
         }
+    }
+    if has_shorter_path(source, sink, delay, table, tasks, own) {
+        return true;
     }
     has_other_way(source, sink, delay, table, tasks, head, link, own)
 }

@@ -1,10 +1,12 @@
--- `redundancy::is_redundant` meets its contract: the number in the row of the edge's source tells whether it has another way, as its chain does.
+-- `redundancy::is_redundant` meets its contract: the number in the row of the edge's source tells whether it has another way, as a
+-- shorter path and its chain do.
+use mathlib.Core.Path.{sym}
 use Prim.Native.Nat.{_*_, _+_, _<_}
 use native.Mathlib.Omega.{arith}
 use borrow.Author.Needs.{needs}
 use lib.ListN.{getD}
 use Rattle.redundancy.proofs.Linked.{ends-below}
-use Rattle.redundancy.proofs.Others.{told}
+use Rattle.redundancy.proofs.Others.{other-way-found, told}
 use Rattle.redundancy.proofs.is_redundant.Statement.{statement}
 use Rattle.redundancy.proofs.is_redundant.Tie as tie
 
@@ -67,11 +69,23 @@ returns c = λ g held i is.
     told g (args .tasks) (args .source .now) (args .sink .now) (args .delay .now) held i (args .own) is (asked .0) (getD (args .seconds .now) place 0)
     (asked .1 .1 .1 .tells (args .own) (asked .0) (c .before .before .before .if2 .taken))
 
+has-shorter-path-requires : tie.Need-has-shorter-path-requires
+has-shorter-path-requires c κs = search needs
+
+returns-2 : tie.Need-returns-2
+returns-2 c = λ g held i is.
+    let begin = c .before .before .before .before .before .before .before .before .before .before .before in
+    let args = begin .args in
+    let way = c .before .has-shorter-path .ensures (c .if3 .taken) in
+    sym
+    (other-way-found g (args .tasks) (args .source .now) (args .sink .now) (args .delay .now) held i (args .own) is (begin .pre .0) (way .0) (way .1)
+    (way .2) (way .3))
+
 has-other-way-requires : tie.Need-has-other-way-requires
 has-other-way-requires c κs = search needs
 
-returns-2 : tie.Need-returns-2
-returns-2 c = search needs
+returns-3 : tie.Need-returns-3
+returns-3 c = search needs
 
 pub is-redundant-spec : {M : Type 1} → statement M
 is-redundant-spec =
@@ -90,5 +104,7 @@ is-redundant-spec =
     shared-slice-read-result-3
     cast-result-2
     returns
+    has-shorter-path-requires
+    returns-2
     has-other-way-requires
-    returns-2)
+    returns-3)
