@@ -17,7 +17,7 @@ use Rattle.layout.specs.Layout.{taskAt, edgeAt, recordBits, recordStart}
 use Rattle.model.specs.Lists.{tabulate}
 use Rattle.model.specs.Tasks.{Edge}
 use Rattle.model.proofs.Basics.{order}
-use Rattle.records.specs.Columns.{withPart, edgeIn}
+use Rattle.records.specs.Columns.{withPart, edgeOfBits}
 use Rattle.records.proofs.Fill.{Filled, filled-more, length-tabulate, getD-tabulate}
 use Rattle.records.proofs.Parts.{put-part, part-length, part-before, part-inside, each-is}
 
@@ -63,8 +63,8 @@ filled-two {f} {n} {k} {xs} {a} {b} done below are =
 -- ── A block of edges ──
 
 -- the 20 bits of an edge record have its three fields
-edge-in-record : (s : List ℕ) (at : ℕ) → edgeIn (field s at recordBits) ≡ edgeAt s at
-unfolding edgeIn edgeAt
+edge-in-record : (s : List ℕ) (at : ℕ) → edgeOfBits (field s at recordBits) ≡ edgeAt s at
+unfolding edgeOfBits edgeAt
 edge-in-record s at =
     let whole : at + 0 ≡ at = omega arith in
     λ x. record {
@@ -76,15 +76,15 @@ edge-in-record s at =
 -- one number of each edge of a block, if the block has the records from a position on
 block-edges :
     (part : Edge → ℕ) (s : List ℕ) (start n : ℕ) (block : List ℕ) {ys : List ℕ} → take n block ≡ tabulate n (λ k. field s (recordStart start k) recordBits)
-    → ys ≡ tabulate n (λ k. part (edgeIn (getD block k 0))) → ys ≡ tabulate n (λ k. part (edgeAt s (recordStart start k)))
+    → ys ≡ tabulate n (λ k. part (edgeOfBits (getD block k 0))) → ys ≡ tabulate n (λ k. part (edgeAt s (recordStart start k)))
 block-edges part s start n block {ys} held is =
-    each-is n (λ k. part (edgeAt s (recordStart start k))) ys (ap length is ∙ length-tabulate n (λ k. part (edgeIn (getD block k 0))))
+    each-is n (λ k. part (edgeAt s (recordStart start k))) ys (ap length is ∙ length-tabulate n (λ k. part (edgeOfBits (getD block k 0))))
     (λ i l.
     let entry : getD block i 0 ≡ field s (recordStart start i) recordBits
     = sym (getD-take n block i 0 l) ∙
     (ap (λ (zs : List ℕ). getD zs i 0) held ∙ getD-tabulate n (λ k. field s (recordStart start k) recordBits) 0 i l) in
     ap (λ (zs : List ℕ). getD zs i 0) is ∙
-    (getD-tabulate n (λ k. part (edgeIn (getD block k 0))) 0 i l ∙ (ap (λ (m : ℕ). part (edgeIn m)) entry ∙ ap part (edge-in-record s (recordStart start i)))))
+    (getD-tabulate n (λ k. part (edgeOfBits (getD block k 0))) 0 i l ∙ (ap (λ (m : ℕ). part (edgeOfBits m)) entry ∙ ap part (edge-in-record s (recordStart start i)))))
 
 -- Behind a front that is filled with the records from a position on, such a part goes on with the records from where the front ends.
 filled-part :
@@ -114,11 +114,11 @@ filled-part f position at {n} {k} {r} {xs} {ys} done here from within is =
 pub filled-block :
     (part : Edge → ℕ) (s : List ℕ) (position : ℕ) {at start n j : ℕ} (count : ℕ) (block : List ℕ) {xs ys : List ℕ} {m : ℕ}
     → Filled (λ i. part (edgeAt s (recordStart position i))) n j xs → at ≡ recordStart position j → start ≡ at → j + count ≤ n → m ≡ j + count - j
-    → take count block ≡ tabulate count (λ k. field s (recordStart start k) recordBits) → ys ≡ tabulate m (λ k. part (edgeIn (getD block k 0)))
+    → take count block ≡ tabulate count (λ k. field s (recordStart start k) recordBits) → ys ≡ tabulate m (λ k. part (edgeOfBits (getD block k 0)))
     → Filled (λ i. part (edgeAt s (recordStart position i))) n (j + count) (putMid j (j + count - j) xs ys)
 filled-block part s position {at} {start} {n} {j} count block {xs} {ys} {m} done here from within as-many held is =
     let size : m ≡ count = omega arith in
     filled-part (λ p. part (edgeAt s p)) position start done (from ∙ here) (omega arith) within
     (put-part j (j + count) (λ k. part (edgeAt s (recordStart start k))) xs (omega arith) as-many
     (subst (λ (r : ℕ). ys ≡ tabulate r (λ k. part (edgeAt s (recordStart start k)))) (sym size)
-    (block-edges part s start count block held (subst (λ (r : ℕ). ys ≡ tabulate r (λ k. part (edgeIn (getD block k 0)))) size is))))
+    (block-edges part s start count block held (subst (λ (r : ℕ). ys ≡ tabulate r (λ k. part (edgeOfBits (getD block k 0)))) size is))))

@@ -43,9 +43,9 @@ edgesOf source sink delay = tabulate (length source) (heldEdge source sink delay
 unfoldable pub edgeOf : EdgeRecord → Edge
 edgeOf r = record { source = r .source; sink = r .sink; delay = r .delay }
 
--- the edge of an edge record's 20 bits as one number: source 6, sink 6, delay 8
-unfoldable pub edgeIn : ℕ → Edge
-edgeIn n = record { source = n / 2 ^ 14 % 2 ^ 6; sink = n / 2 ^ 8 % 2 ^ 6; delay = n % 2 ^ 8 }
+-- only for contracts inside: the edge of an edge record's 20 bits as one number, source 6, sink 6, delay 8
+unfoldable pub edgeOfBits : ℕ → Edge
+edgeOfBits n = record { source = n / 2 ^ 14 % 2 ^ 6; sink = n / 2 ^ 8 % 2 ^ 6; delay = n % 2 ^ 8 }
 
 -- the list with f 0, f 1, .. in the places from a start up to an end, which is left out; places count from 0
 unfoldable pub withPart : ℕ → ℕ → (ℕ → ℕ) → List ℕ → List ℕ

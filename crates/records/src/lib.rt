@@ -9,7 +9,7 @@ ghost use Rattle.model.specs.Tasks.{Task};
 ghost use Rattle.model.specs.Processors.{processorEdge};
 ghost use Rattle.bits.specs.Bits.{field};
 ghost use Rattle.layout.specs.Layout.{graphHeaderBits, recordBits, recordStart, taskAt, edgeAt};
-ghost use Rattle.records.specs.Columns.{withPart, ProcessorsOf, edgeIn};
+ghost use Rattle.records.specs.Columns.{withPart, ProcessorsOf, edgeOfBits};
 ghost use Rattle.records.specs.Nexts.{FirstTasks, NextTasks};
 use layout::GRAPH_HEADER_BITS;
 use layout::RECORD_BITS;
@@ -98,9 +98,9 @@ fn split<'a>(block: &[u32], source: &'a mut [u8], sink: &'a mut [u8], delay: &'a
     requires { ⌜ length (now source) ≤ length (now block) ⌝ }
     requires { ⌜ length (now sink) ≡ length (now source) ⌝ }
     requires { ⌜ length (now delay) ≡ length (now source) ⌝ }
-    ensures { λ _. ⌜ now (source .exit) ≡ tabulate (length (now (source .entry))) (λ k. edgeIn (getD (now (block .entry)) k 0) .source) ⌝ }
-    ensures { λ _. ⌜ now (sink .exit) ≡ tabulate (length (now (source .entry))) (λ k. edgeIn (getD (now (block .entry)) k 0) .sink) ⌝ }
-    ensures { λ _. ⌜ now (delay .exit) ≡ tabulate (length (now (source .entry))) (λ k. edgeIn (getD (now (block .entry)) k 0) .delay) ⌝ }
+    ensures { λ _. ⌜ now (source .exit) ≡ tabulate (length (now (source .entry))) (λ k. edgeOfBits (getD (now (block .entry)) k 0) .source) ⌝ }
+    ensures { λ _. ⌜ now (sink .exit) ≡ tabulate (length (now (source .entry))) (λ k. edgeOfBits (getD (now (block .entry)) k 0) .sink) ⌝ }
+    ensures { λ _. ⌜ now (delay .exit) ≡ tabulate (length (now (source .entry))) (λ k. edgeOfBits (getD (now (block .entry)) k 0) .delay) ⌝ }
 {
     let mut k = 0;
     while k < source.len() {

@@ -5,7 +5,7 @@ use native.Mathlib.Omega.{arith}
 use borrow.Author.Needs.{needs}
 use lib.Bits.{and-mask}
 use lib.ListN.{length, getD}
-use Rattle.records.specs.Columns.{edgeIn}
+use Rattle.records.specs.Columns.{edgeOfBits}
 use Rattle.records.proofs.Fill.{Filled, filled-none, filled-more, filled-all}
 use Rattle.records.proofs.Pairs.{masked}
 use Rattle.records.proofs.split.Statement.{statement}
@@ -14,9 +14,9 @@ use Rattle.records.proofs.split.Tie as tie
 abbrev Inv-loop : tie.InvT-loop
 Inv-loop block source₀ sink₀ delay₀ k₀ source sink delay k =
     (k ≤ length source₀) ×
-    Filled (λ i. edgeIn (getD block i 0) .source) (length source₀) k source ×
-    Filled (λ i. edgeIn (getD block i 0) .sink) (length source₀) k sink ×
-    Filled (λ i. edgeIn (getD block i 0) .delay) (length source₀) k delay
+    Filled (λ i. edgeOfBits (getD block i 0) .source) (length source₀) k source ×
+    Filled (λ i. edgeOfBits (getD block i 0) .sink) (length source₀) k sink ×
+    Filled (λ i. edgeOfBits (getD block i 0) .delay) (length source₀) k delay
 
 abbrev μ-loop : tie.MeasureT-loop
 μ-loop block source₀ sink₀ delay₀ k₀ source sink delay k = length source₀ - k
@@ -55,7 +55,7 @@ loop-less : tie.Need-loop-less Inv-loop μ-loop
 loop-less c = omega (arith, c .before .before .loop .inv .1 .size)
 
 loop-again : tie.Need-loop-again Inv-loop μ-loop
-unfolding edgeIn
+unfolding edgeOfBits
 loop-again c =
     let inv = c .before .before .loop .inv in
     let one = getD (c .before .before .before .args .block .now) (c .before .before .loop .k) 0 in
