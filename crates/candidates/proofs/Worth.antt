@@ -51,7 +51,7 @@ module _ (back : List ℕ) (end : ℕ) (latest counts : List ℕ) (b : ℕ) wher
 -- ── By the counts of all pairs ──
 
 -- a place of a lent part is one of the whole list
-part-at : (start end i : ℕ) (xs : List ℕ) → i < end - start → at (midOf start (end - start) xs) i ≡ at xs (start + i)
+pub part-at : (start end i : ℕ) (xs : List ℕ) → i < end - start → at (midOf start (end - start) xs) i ≡ at xs (start + i)
 unfolding at
 part-at start end i xs l = getD-take (end - start) (drop start xs) i 0 l ∙ getD-drop start xs i 0
 

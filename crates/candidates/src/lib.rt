@@ -144,6 +144,24 @@ pub fn has_pair<'a>(counts: &'a [u16], to: &'a [u16], tasks: usize) -> bool
     false
 }
 
+// Whether a pair without a path back leads to a task whose number is two or more: `most` has a number for each task.
+pub fn has_sink<'a>(most: &'a [u16], to: &'a [u16], tasks: usize) -> bool
+    requires { ⌜ (tasks ≤ 64) × (length (now most) ≡ 64) × (tasks * 64 ≤ length (now to)) ⌝ }
+    ensures { λ r. ⌜ (r ≡ false → (a b : ℕ) → a < tasks → b < 64 → at (now (to .entry)) (a * 64 + b) ≡ 16383 → at (now (most .entry)) b < 2) ⌝ }
+{
+    let any: [u16; 64] = [0; 64];
+    let mut a = 0;
+    while a < tasks {
+        let start = a * WIDTH;
+        let end = start + WIDTH;
+        if exceeding(most, &to[start..end], 0, 1, 0, &any) != 0 {
+            return true;
+        }
+        a += 1;
+    }
+    false
+}
+
 // The best of the pairs out of task `a`, by the counts for their sinks, if it is better than the best before; `back` has the
 // delays back to `a`.
 fn best_counted<'a>(

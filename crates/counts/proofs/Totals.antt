@@ -162,7 +162,7 @@ module _ (source sink delay : List ℕ) where
   first-few : (u : Edge → Bool) (j : ℕ) → length (keep u (first j)) ≤ j
   first-few u j = omega (arith, length-keep u (first j), length-tabulate j (heldEdge source sink delay))
 
-  first-more : (u : Edge → Bool) (j : ℕ) → length (keep u (first (j + 1))) ≡ length (keep u (first j)) + counted (u (edge (s j) (t j) (d j))) 1
+  pub first-more : (u : Edge → Bool) (j : ℕ) → length (keep u (first (j + 1))) ≡ length (keep u (first j)) + counted (u (edge (s j) (t j) (d j))) 1
   unfolding tabulate heldEdge at
   first-more u j = ap (λ (k : ℕ). length (keep u (first k))) (add-one j) ∙ kept-more u (first j) (heldEdge source sink delay j)
 

@@ -6,9 +6,9 @@ use mathlib.Core.List.{List}
 use Prim.Native.Nat.{ℕ, _+_, _-_, _*_, _≤_, _<_}
 use lib.Dec.{leb}
 use lib.ListN.{length}
-use Rattle.model.specs.Lists.{counted, keep}
+use Rattle.model.specs.Lists.{counted, keep, tabulate}
 use Rattle.model.specs.Tasks.{Edge}
-use Rattle.records.specs.Columns.{at}
+use Rattle.records.specs.Columns.{at, heldEdge}
 
 -- the pair (a, b) subsumes e, by the delays from its source and the delays to its sink; 16,383, for none, is above every delay
 unfoldable pub subsumesBy : List ℕ → List ℕ → ℕ → ℕ → Edge → Bool
@@ -22,6 +22,12 @@ share from to s t limit a b = counted (leb (at from (s * 64 + a) + at to (t * 64
 pub record CountsOf (tasks : ℕ) (from to : List ℕ) (es : List Edge) (counts : List ℕ) : Type 0 where
   pub size : tasks * 64 ≤ length counts
   pub each : (a b : ℕ) → a < tasks → b < 64 → at counts (a * 64 + b) ≡ length (keep (subsumesBy from to a b) es)
+
+-- Each number is for a task: no pair into it subsumes more of the first `many` edges, whatever their sources are and the delays from these.
+pub record MostBySink (sink delay to : List ℕ) (many : ℕ) (most : List ℕ) : Type 0 where
+  pub size : length most ≡ 64
+  pub few : (b : ℕ) → b < 64 → at most b ≤ many
+  pub each : (source from : List ℕ) (a b : ℕ) → b < 64 → length (keep (subsumesBy from to a b) (tabulate many (heldEdge source sink delay))) ≤ at most b
 
 -- Every number of the first `tasks` rows is at most 16,383.
 abbrev pub SmallRows : ℕ → List ℕ → Type 0

@@ -7,13 +7,13 @@ ghost use mathlib.Core.Path.{_≡_};
 ghost use mathlib.Core.Bool.{not};
 ghost use Prim.Native.Nat.{ℕ, _+_, _-_, _*_, _≤_, _<_};
 ghost use lib.Dec.{leb};
-ghost use lib.ListN.{length};
+ghost use lib.ListN.{length, replicate};
 ghost use Rattle.model.specs.Lists.{counted, keep};
 ghost use Rattle.model.specs.Tasks.{Ends};
 ghost use Rattle.model.specs.Plan.{withPair};
 ghost use Rattle.records.specs.Columns.{at, edgesOf};
 ghost use Rattle.delays.specs.Delays.{edge};
-ghost use Rattle.counts.specs.Counts.{subsumesBy, SmallRows, Still, BelowRow, LeftRow, RowsMarked, RowsFell, RowShifted, EdgeShifted, Covered, SameTests, CountsOf};
+ghost use Rattle.counts.specs.Counts.{subsumesBy, SmallRows, Still, BelowRow, LeftRow, RowsMarked, RowsFell, RowShifted, EdgeShifted, Covered, SameTests, CountsOf, MostBySink};
 
 // Places of a row, for as many tasks as there can be.
 const WIDTH: usize = 64;
@@ -386,4 +386,31 @@ pub fn shift_edges<'a>(
         j += 1;
     }
     count_edge(next_from, next_to, a, b, 1, tasks, counts);
+}
+
+// For each task a number that no pair into it exceeds by the edges that it subsumes, by numbers of 0: of how many edges it leads to the sink within their
+// delay.
+pub fn most_by_sink<'a>(
+    sink: &'a [u8],
+    delay: &'a [u8],
+    to: &'a [u16],
+    tasks: usize,
+    most: &mut [u16],
+)
+    requires { ⌜ (length (now delay) ≡ length (now sink)) × (length (now sink) ≤ 256) × (tasks ≤ 64) × (tasks * 64 ≤ length (now to)) ⌝ }
+    requires { ⌜ SmallRows tasks (now to) × ((j : ℕ) → j < length (now sink) → at (now sink) j < tasks) × (now most ≡ replicate 64 0) ⌝ }
+    ensures { λ _. ⌜ MostBySink (now (sink .entry)) (now (delay .entry)) (now (to .entry)) (length (now (sink .entry))) (now (most .exit)) ⌝ }
+{
+    let mut tests: [u16; 64] = [0; 64];
+    let mut j = 0;
+    while j < sink.len() {
+        row_below(
+            to,
+            sink[j] as usize * WIDTH,
+            delay[j] as u16 + 1,
+            &mut tests,
+        );
+        more_row(&tests, 0, most);
+        j += 1;
+    }
 }

@@ -14,7 +14,7 @@ use Rattle.model.specs.Tasks.{Edge}
 use Rattle.model.proofs.Tests.{decided, decides-no, decides-and, decides-not, eqb-decides}
 use Rattle.records.specs.Columns.{SourcesOf, SinksOf, DelaysOf}
 use Rattle.files.specs.Files.{edgeIn, repeatsEarlier}
-use Rattle.files.specs.Marks.{edgePlace, edgeMark, sharedMark, Marked}
+use Rattle.files.specs.Marks.{edgePlace, edgeMark, sharedMark, Placed, Marked}
 use Rattle.files.proofs.Repeats.{repeats-earlier-is}
 
 -- the place of edge i, and what is a mark of it
@@ -26,6 +26,23 @@ IsMark turns mark = (mark ≡ edgeMark turns) ⊎ (mark ≡ sharedMark)
 
 pub place-inside : (source sink delay : List ℕ) (i : ℕ) → placeOf source sink delay i < 4096
 place-inside source sink delay i = omega arith
+
+-- ── Places in a list ──
+
+pub placed-none : (source sink delay : List ℕ) {places : List ℕ} → length places ≡ 256 → Placed source sink delay 0 places
+placed-none source sink delay {places} room = record { room = room; each = below-none (λ i. getD places i 0 ≡ placeOf source sink delay i) }
+
+pub placed-more :
+    {source sink delay : List ℕ} {j : ℕ} {places : List ℕ} → Placed source sink delay j places → j < 256 → {v : ℕ} → v ≡ placeOf source sink delay j
+    → Placed source sink delay (j + 1) (set places j v)
+placed-more {source} {sink} {delay} {j} {places} placed few {v} is = record {
+  room = length-set places j v ∙ placed .room;
+  each = below-more (λ i. getD (set places j v) i 0 ≡ placeOf source sink delay i) j
+      (λ i l. getD-set-other places j i v 0 (λ q. omega arith) ∙ placed .each i l)
+      (getD-set-same places j v 0 (omega (arith, placed .room)) ∙ is);
+}
+
+-- ── Marks at places ──
 
 pub not-blank : (turns mark : ℕ) → IsMark turns mark → mark ≡ 0 → ⊥
 not-blank turns mark (inl own) none = omega arith

@@ -17,6 +17,11 @@ edgeMark delay = delay % 128 + 1
 abbrev pub sharedMark : ℕ
 sharedMark = 255
 
+-- The first `many` numbers of a list are the places of the edges that the lists hold.
+pub record Placed (source sink delay : List ℕ) (many : ℕ) (places : List ℕ) : Type 0 where
+  pub room : length places ≡ 256
+  pub each : (i : ℕ) → i < many → getD places i 0 ≡ edgePlace (getD source i 0) (getD sink i 0) (getD delay i 0)
+
 -- Each of the first j edges that the lists hold has its mark at its place, or the place is marked as shared.
 pub record Marked (source sink delay : List ℕ) (j : ℕ) (seen : List ℕ) : Type 0 where
   pub room : length seen ≡ 4096

@@ -6,7 +6,6 @@ ghost use Rattle.model.specs.Graph.{Graph};
 ghost use Rattle.records.specs.Columns.{at};
 ghost use Rattle.steps.specs.Steps.{Followed};
 ghost use Rattle.plans.specs.Plans.{Lent, Starts};
-use candidates::has_pair;
 use needed::first_stage;
 use prepared::start;
 use present::first_times;
@@ -14,7 +13,7 @@ use steps::Walked;
 use steps::follow_steps;
 
 // The plan of an accepted graph from its first stage on, whose edges the lists hold; then they hold the plan's. The graph comes as its edges, its times, its
-// output, its bound, its latency and its table of least delays; five lists are for delays and counts. Where no pair may subsume two edges there is no step.
+// output, its bound, its latency and its table of least delays; five lists are for delays and counts. Where no pair subsumes two edges there is no step.
 fn plan_from<'a, 'b>(
     graph_source: &'a [u8],
     graph_sink: &'a [u8],
@@ -42,7 +41,7 @@ fn plan_from<'a, 'b>(
     ensures { λ r. ⌜ ((g : Graph) → Starts g (now («graph_source» .entry)) (now («graph_sink» .entry)) (now («graph_delay» .entry)) (now (time .entry)) output bound latency first (now (source .entry)) (now (sink .entry)) (now (delay .entry)) (now (table .entry)) → Followed g r (now (source .exit)) (now (sink .exit)) (now (delay .exit))) ⌝ }
 {
     let tasks = time.len();
-    start(
+    if !start(
         tasks,
         &source[0..first],
         &sink[0..first],
@@ -51,8 +50,7 @@ fn plan_from<'a, 'b>(
         from,
         to,
         counts,
-    );
-    if !has_pair(counts, to, tasks) {
+    ) {
         return Walked {
             count: first,
             steps: 0,

@@ -1,5 +1,5 @@
 -- `files::checks::many_repeats_refusal` meets its contract: none of the edges looked at so far repeats an earlier one, and each is marked.
-use mathlib.Core.Path.{_≡_, sym, subst, _∙_}
+use mathlib.Core.Path.{_≡_, refl, sym, subst, _∙_}
 use mathlib.Core.List.{List}
 use Prim.Native.Nat.{ℕ, _-_, _≤_, _<_}
 use native.Mathlib.Omega.{arith}
@@ -9,7 +9,7 @@ use borrow.Author.Needs.{needs}
 use Rattle.model.specs.Tasks.{Edge}
 use Rattle.files.specs.Refusals.{notRefused}
 use Rattle.files.specs.Files.{repeatRefusal}
-use Rattle.files.specs.Marks.{Marked}
+use Rattle.files.specs.Marks.{Placed, Marked}
 use Rattle.records.specs.Columns.{SourcesOf, SinksOf, DelaysOf}
 use Rattle.files.proofs.First.{stops-at, stops-nowhere}
 use Rattle.files.proofs.Repeats.{repeat-stops, repeat-passes}
@@ -18,32 +18,50 @@ use Rattle.files.proofs.checks.many_repeats_refusal.Statement.{statemen
 use Rattle.files.proofs.checks.many_repeats_refusal.Tie as tie
 
 abbrev Inv-loop : tie.InvT-loop
-Inv-loop source sink delay seen₀ j₀ seen j =
-    (j ≤ length source) × Marked source sink delay j seen ×
+Inv-loop source sink delay places seen₀ j₀ seen j =
+    (j ≤ length source) × Placed source sink delay (length source) places × Marked source sink delay j seen ×
     ((es : List Edge) → SourcesOf es source → SinksOf es sink → DelaysOf es delay → (i : ℕ) → i < j → repeatRefusal es i ≡ notRefused)
 
 abbrev μ-loop : tie.MeasureT-loop
-μ-loop source sink delay seen₀ j₀ seen j = length source - j
+μ-loop source sink delay places seen₀ j₀ seen j = length source - j
+
+slice-aggregate-places-into : tie.Need-slice-aggregate-places-into Inv-loop μ-loop
+slice-aggregate-places-into c = search needs
+
+places-into-requires : tie.Need-places-into-requires Inv-loop μ-loop
+places-into-requires c κs = let asked = c .before .before .before .before .pre in (asked .0, asked .1 .0, asked .1 .1, refl)
 
 blank-marks-requires : tie.Need-blank-marks-requires Inv-loop μ-loop
 blank-marks-requires c κs = search needs
 
 loop-holds : tie.Need-loop-holds Inv-loop μ-loop
-loop-holds c = (omega arith, marked-none (c .before .before .before .before .before .args .source .now) (c .before .before .before .before .before .args .sink .now) (c .before .before .before .before .before .args .delay .now) (c .before .blank-marks .ensures), λ es from to turns. below-none (λ i. repeatRefusal es i ≡ notRefused))
+loop-holds c =
+    let args = c .before .before .before .before .before .before .before .before .args in
+    (omega arith, c .before .before .before .places-into .ensures, marked-none (args .source .now) (args .sink .now) (args .delay .now) (c .before .blank-marks .ensures), λ es from to turns. below-none (λ i. repeatRefusal es i ≡ notRefused))
+
+mul-repeats-marked : tie.Need-mul-repeats-marked Inv-loop μ-loop
+mul-repeats-marked c = search needs
+
+array-read-repeats-marked : tie.Need-array-read-repeats-marked Inv-loop μ-loop
+array-read-repeats-marked c = search needs
+
+cast-repeats-marked : tie.Need-cast-repeats-marked Inv-loop μ-loop
+cast-repeats-marked c = omega (arith, c .before .loop .inv .1 .each _ (c .loop-test .taken))
 
 slice-aggregate-repeats-marked : tie.Need-slice-aggregate-repeats-marked Inv-loop μ-loop
 slice-aggregate-repeats-marked c = search needs
 
 repeats-marked-requires : tie.Need-repeats-marked-requires Inv-loop μ-loop
 repeats-marked-requires c κs =
-    let asked = c .before .before .before .before .before .before .before .before .pre in
-    (c .before .loop-test .taken, (asked .1 .0, (asked .1 .1, c .before .before .loop .inv .1)))
+    let asked = c .before .before .before .before .before .before .before .before .before .before .before .pre in
+    let loop = c .before .before .loop in
+    ((c .before .loop-test .taken, loop .inv .1 .each _ (c .before .loop-test .taken)), (asked .1 .0, (asked .1 .1, loop .inv .2)))
 
-cast-t12 : tie.Need-cast-t12 Inv-loop μ-loop
-cast-t12 c = omega (arith, c .before .before .before .before .before .before .before .before .before .before .before .pre .0)
+cast-t20 : tie.Need-cast-t20 Inv-loop μ-loop
+cast-t20 c = omega (arith, c .before .before .before .before .before .before .before .before .before .before .before .before .before .before .pre .0)
 
-add-t13 : tie.Need-add-t13 Inv-loop μ-loop
-add-t13 c = omega (arith, c .before .before .before .before .before .before .before .before .before .before .before .pre .0)
+add-t21 : tie.Need-add-t21 Inv-loop μ-loop
+add-t21 c = omega (arith, c .before .before .before .before .before .before .before .before .before .before .before .before .before .before .pre .0)
 
 returns : tie.Need-returns Inv-loop μ-loop
 returns c =
@@ -51,7 +69,7 @@ returns c =
     let j = c .before .before .before .before .before .loop .j in
     sym
     (stops-at (length es) (repeatRefusal es) (subst (λ (m : ℕ). j < m) (from .as-many) (c .before .before .before .before .loop-test .taken))
-    (c .before .before .before .before .before .loop .inv .2 es from to turns)
+    (c .before .before .before .before .before .loop .inv .3 es from to turns)
     (repeat-stops es j (sym (c .before .before .repeats-marked .ensures .0 es from to turns) ∙ c .if1 .taken))
     (λ z. omega arith))
 
@@ -65,9 +83,10 @@ loop-again : tie.Need-loop-again Inv-loop μ-loop
 loop-again c =
     let j = c .before .before .before .before .before .loop .j in (
       omega arith,
+      c .before .before .before .before .before .loop .inv .1,
       c .before .before .repeats-marked .ensures .1,
       λ es from to turns.
-          below-more (λ i. repeatRefusal es i ≡ notRefused) j (c .before .before .before .before .before .loop .inv .2 es from to turns)
+          below-more (λ i. repeatRefusal es i ≡ notRefused) j (c .before .before .before .before .before .loop .inv .3 es from to turns)
           (repeat-passes es j (sym (c .before .before .repeats-marked .ensures .0 es from to turns) ∙ c .if1 .left)),
     )
 
@@ -76,7 +95,7 @@ returns-2 c =
     λ es from to turns.
     sym
     (stops-nowhere (length es) (repeatRefusal es) (subst (λ (m : ℕ). m ≤ c .before .loop .j) (from .as-many) (c .loop-test .left))
-    (c .before .loop .inv .2 es from to turns))
+    (c .before .loop .inv .3 es from to turns))
 
 pub many-repeats-refusal-spec : {M : Type 1} → statement M
 many-repeats-refusal-spec =
@@ -84,12 +103,17 @@ many-repeats-refusal-spec =
     (tie.spec
     Inv-loop
     μ-loop
+    slice-aggregate-places-into
+    places-into-requires
     blank-marks-requires
     loop-holds
+    mul-repeats-marked
+    array-read-repeats-marked
+    cast-repeats-marked
     slice-aggregate-repeats-marked
     repeats-marked-requires
-    cast-t12
-    add-t13
+    cast-t20
+    add-t21
     returns
     add-j
     loop-less

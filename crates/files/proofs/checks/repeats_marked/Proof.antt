@@ -3,25 +3,14 @@
 use mathlib.Core.Logic.{inl, inr}
 use mathlib.Core.Path.{refl, sym}
 use borrow.Author.Needs.{needs}
+use native.Mathlib.Omega.{arith}
 use lib.ListN.{getD}
 use Rattle.files.proofs.Marks.{not-blank, neither, marked-more, not-marked}
 use Rattle.files.proofs.checks.repeats_marked.Statement.{statement}
 use Rattle.files.proofs.checks.repeats_marked.Tie as tie
 
-shared-slice-read-edge-place : tie.Need-shared-slice-read-edge-place
-shared-slice-read-edge-place c = search needs
-
-shared-slice-read-edge-place-2 : tie.Need-shared-slice-read-edge-place-2
-shared-slice-read-edge-place-2 c = search needs
-
-shared-slice-read-edge-place-3 : tie.Need-shared-slice-read-edge-place-3
-shared-slice-read-edge-place-3 c = search needs
-
-edge-place-requires : tie.Need-edge-place-requires
-edge-place-requires c κs = search needs
-
 slice-read-before : tie.Need-slice-read-before
-slice-read-before c = search needs
+slice-read-before c = omega (arith, (c .before .before .before .before .before .pre .0 .1), (c .before .before .before .before .before .pre .1 .1 .1 .room))
 
 shared-slice-read-mark : tie.Need-shared-slice-read-mark
 shared-slice-read-mark c = search needs
@@ -37,12 +26,12 @@ same-length c = search needs
 
 returns : tie.Need-returns
 returns c =
-    let start = c .before .before .before .before .before .before .before .before .before .before .before in
+    let start = c .before .before .before .before .before .before .before in
     let marked = start .pre .1 .1 .1 in
-    let is = c .before .before .before .edge-place .ensures in
+    let is = start .pre .0 .1 in
     let delay = start .args .delay .now in
-    let before = getD (start .args .seen .now) (c .before .before .before .edge-place .result) 0 in (
-      λ es from to turns. sym (not-marked marked is (start .pre .0) (λ m. not-blank (getD delay (start .args .j) 0) before m (c .if1 .taken)) es from to turns),
+    let before = getD (start .args .seen .now) (start .args .place) 0 in (
+      λ es from to turns. sym (not-marked marked is (start .pre .0 .0) (λ m. not-blank (getD delay (start .args .j) 0) before m (c .if1 .taken)) es from to turns),
       marked-more marked is (inl refl) (λ i m. absurd (not-blank (getD delay i 0) before m (c .if1 .taken))),
     )
 
@@ -54,11 +43,11 @@ same-length-2 c = search needs
 
 returns-2 : tie.Need-returns-2
 returns-2 c =
-    let start = c .before .before .before .before .before .before .before .before .before .before .before .before in
+    let start = c .before .before .before .before .before .before .before .before in
     let marked = start .pre .1 .1 .1 in
-    let is = c .before .before .before .before .edge-place .ensures in
-    let before = getD (start .args .seen .now) (c .before .before .before .before .edge-place .result) 0 in (
-      λ es from to turns. sym (not-marked marked is (start .pre .0) (neither (getD (start .args .delay .now) (start .args .j) 0) before (c .if2 .taken)) es from to turns),
+    let is = start .pre .0 .1 in
+    let before = getD (start .args .seen .now) (start .args .place) 0 in (
+      λ es from to turns. sym (not-marked marked is (start .pre .0 .0) (neither (getD (start .args .delay .now) (start .args .j) 0) before (c .if2 .taken)) es from to turns),
       marked-more marked is (inr refl) (λ i m. inr refl),
     )
 
@@ -70,16 +59,13 @@ same-length-3 c = search needs
 
 returns-3 : tie.Need-returns-3
 returns-3 c =
-    (c .repeats-earlier .ensures, marked-more (c .before .before .before .before .before .before .before .before .before .before .before .before .before .pre .1 .1 .1) (c .before .before .before .before .before .edge-place .ensures) (inr refl) (λ i m. inr refl))
+    let start = c .before .before .before .before .before .before .before .before .before in
+    (c .repeats-earlier .ensures, marked-more (start .pre .1 .1 .1) (start .pre .0 .1) (inr refl) (λ i m. inr refl))
 
 pub repeats-marked-spec : {M : Type 1} → statement M
 repeats-marked-spec =
     tie.close
     (tie.spec
-    shared-slice-read-edge-place
-    shared-slice-read-edge-place-2
-    shared-slice-read-edge-place-3
-    edge-place-requires
     slice-read-before
     shared-slice-read-mark
     add-mark
