@@ -1,5 +1,5 @@
--- Two lists that are filled turn by turn, one with starts and one with ends: after each turn the turns so far stand in front, and behind them what the
--- list held. From the ends in front the next turn is told.
+-- A list that is filled with starts turn by turn: after each turn the turns so far stand in front, and behind them what the list held. From the starts in front
+-- the ends are told that the next turn waits for.
 use mathlib.Core.Path.{_≡_, refl, sym, ap, _∙_, subst}
 use mathlib.Core.List.{List, _++_}
 use Prim.Native.Nat.{ℕ, suc, _+_, _-_, _*_, _≤_, _<_}
@@ -9,13 +9,16 @@ use lib.ListN.{length, getD, take, drop, getD-replicate, List·getD-append}
 use lib.Seq.{length-take-le, getD-take, getD-drop, ext-getD, take-at, drop-at}
 use borrow.Rule.Slice.PartMut.{midOf, postOf, putMid, post-is, mid-len, same-len-mid, take-put, drop-put}
 use Rattle.model.specs.Lists.{tabulate}
-use Rattle.model.specs.Tasks.{Edge}
+use Rattle.model.specs.Tasks.{Edge, Ends}
 use Rattle.model.specs.Runs.{ends, estimates}
 use Rattle.model.specs.Compute.{earliest}
 use Rattle.records.specs.Columns.{zeros, rows, at}
 use Rattle.records.proofs.Fill.{length-tabulate, getD-tabulate}
 use Rattle.records.proofs.Parts.{zeros-length, each-is}
-use Rattle.records.proofs.Rows.{rows-length, rows-at, rows-more}
+use Rattle.records.proofs.Rows.{rows-length, rows-at, rows-more, place-within}
+use Rattle.waits.specs.Chains.{Late, EndsOf}
+use Rattle.waits.proofs.PartsBack.{mid-back, put-again}
+use Rattle.waits.proofs.Earlier.{source-place}
 use Rattle.starts.specs.Starts.{turnRow, turnRows}
 use Rattle.starts.proofs.Turns.{EndedBefore, row-length, row-at}
 
@@ -48,53 +51,36 @@ put-length a w xs ys room as-many = same-len-mid a (a + w - a) xs ys (as-many �
 
 -- a part that came back is what stands there
 pub mid-put : (a w : ℕ) (xs ys : List ℕ) → a ≤ length xs → length ys ≡ w → midOf a (a + w - a) (putMid a (a + w - a) xs ys) ≡ ys
-mid-put a w xs ys within long =
-    let count : a + w - a ≡ w = omega arith in
-    ap (λ (zs : List ℕ). take (a + w - a) zs) (drop-at (take a xs) (ys ++ postOf a (a + w - a) xs) a (length-take-le a xs within)) ∙
-    take-at ys (postOf a (a + w - a) xs) (a + w - a) (long ∙ sym count)
+mid-put a w xs ys within long = mid-back a (a + w - a) xs ys within (omega (arith, long))
 
 -- a part that comes back twice is what came back last
 pub put-twice :
     (a w : ℕ) (xs ys zs : List ℕ) → a + w ≤ length xs → length ys ≡ w →
     putMid a (a + w - a) (putMid a (a + w - a) xs ys) zs ≡ putMid a (a + w - a) xs zs
-put-twice a w xs ys zs room long =
-    let count : a + w - a ≡ w = omega arith in
-    let behind : postOf a (a + w - a) (putMid a (a + w - a) xs ys) ≡ postOf a (a + w - a) xs =
-    post-is a (a + w) (putMid a (a + w - a) xs ys) (omega arith) ∙
-    (drop-put a (a + w) xs ys (omega arith) room (long ∙ sym count) ∙ sym (post-is a (a + w) xs (omega arith))) in
-    ap (λ (us : List ℕ). us ++ (zs ++ postOf a (a + w - a) (putMid a (a + w - a) xs ys))) (take-put a (a + w - a) xs ys (omega arith)) ∙
-    ap (λ (us : List ℕ). take a xs ++ (zs ++ us)) behind
+put-twice a w xs ys zs room long = put-again a (a + w - a) xs ys (omega (arith, room)) (omega (arith, long)) zs
 
--- the turns before one stand in front of what the lists held
-pub record Turned
-    (n : ℕ) (es : List Edge) (time : ℕ → ℕ) (turns : ℕ) (kept blank : List ℕ) (place turn : ℕ) (starts end : List ℕ)
-    : Type 0 where
+-- the turns before one stand in front of what the list held
+pub record Turned (n : ℕ) (es : List Edge) (time : ℕ → ℕ) (turns : ℕ) (kept : List ℕ) (place turn : ℕ) (starts : List ℕ) : Type 0 where
   pub counted : 1 ≤ turn
   pub within : turn ≤ turns + 1
   pub placed : place ≡ (turn - 1) * n
   pub started : starts ≡ rows (turn - 1) (λ k. turnRow n es time (suc k)) ++ drop place kept
-  pub ended : end ≡ rows (turn - 1) (λ k. endRow n es time (suc k)) ++ drop place blank
   pub starts-long : length starts ≡ length kept
-  pub end-long : length end ≡ length blank
 
--- the next row is within both lists, which are short
-pub record Room (n place : ℕ) (starts end : List ℕ) : Type 0 where
+-- the next row is within the list, and near its beginning
+pub record Room (n place : ℕ) (starts : List ℕ) : Type 0 where
   pub starts-to : place + n ≤ length starts
-  pub end-to : place + n ≤ length end
-  pub end-from : place ≤ length end
   pub small : place + n ≤ 4096
 
-pub turned-none : (n : ℕ) (es : List Edge) (time : ℕ → ℕ) (turns : ℕ) (kept blank : List ℕ) → Turned n es time turns kept blank 0 1 kept blank
+pub turned-none : (n : ℕ) (es : List Edge) (time : ℕ → ℕ) (turns : ℕ) (kept : List ℕ) → Turned n es time turns kept 0 1 kept
 unfolding rows
-turned-none n es time turns kept blank =
+turned-none n es time turns kept =
     record {
       counted = le-refl 1;
       within = omega arith;
       placed = sym (zero-mul n);
       started = refl;
-      ended = refl;
       starts-long = refl;
-      end-long = refl;
     }
 
 -- a list with 0 in the place of its first m numbers
@@ -121,8 +107,8 @@ cleared-front m first ys room is =
     }
 
 module _
-    {n : ℕ} {es : List Edge} {time : ℕ → ℕ} {turns : ℕ} {kept blank : List ℕ} {place turn : ℕ} {starts end : List ℕ}
-    (so-far : Turned n es time turns kept blank place turn starts end)
+    {n : ℕ} {es : List Edge} {time : ℕ → ℕ} {turns : ℕ} {kept : List ℕ} {place turn : ℕ} {starts : List ℕ}
+    (so-far : Turned n es time turns kept place turn starts)
   where
     next : suc (turn - 1) ≡ turn
     next = let c = so-far .counted in omega arith
@@ -131,18 +117,15 @@ module _
     next-place : place + n ≡ turn * n
     next-place = ap (λ (m : ℕ). m + n) (so-far .placed) ∙ (sym (suc-mul (turn - 1) n) ∙ ap (λ (m : ℕ). m * n) next)
 
-    pub turn-room : turn ≤ turns → n ≤ 64 → turns ≤ 64 → n * turns ≤ length kept → n * turns ≤ length blank → Room n place starts end
-    turn-room more few early room end-room =
+    pub turn-room : turn ≤ turns → n ≤ 64 → turns ≤ 64 → n * turns ≤ length kept → Room n place starts
+    turn-room more few early room =
         let wide : turn * n ≤ turns * n = mul-le-mul more (le-refl n) in
         let all : turns * n ≤ 64 * 64 = mul-le-mul early few in
         let turned = mul-comm n turns in
         let starts-long = so-far .starts-long in
-        let end-long = so-far .end-long in
         let there = next-place in
         record {
           starts-to = omega arith;
-          end-to = omega arith;
-          end-from = omega arith;
           small = omega arith;
         }
 
@@ -164,14 +147,11 @@ module _
         (rows-length n (λ k. turnRow n es time (suc k)) (λ k. row-length n es time (suc k) refl) (turn - 1) ∙ sym (so-far .placed))) ∙
         (getD-drop place kept i 0 ∙ (clear .blank (place + i) (omega arith) ∙ sym (getD-replicate n i 0 0 inside)))))
 
-    front-is : take (place - 0) end ≡ rows (turn - 1) (λ k. endRow n es time (suc k))
-    front-is =
-        ap (λ (m : ℕ). take m end) (sub-zero place) ∙
-        (ap (λ (xs : List ℕ). take place xs) (so-far .ended) ∙
-        take-at (rows (turn - 1) (λ k. endRow n es time (suc k))) (drop place blank) place
-        (rows-length n (λ k. endRow n es time (suc k)) (λ k. end-length n es time (suc k)) (turn - 1) ∙ sym (so-far .placed)))
+    -- the ends of the turns before, turn by turn
+    abbrev pub endRows : List ℕ
+    endRows = rows (turn - 1) (λ k. endRow n es time (suc k))
 
-    rows-ended : EndedBefore n es time turn (rows (turn - 1) (λ j. endRow n es time (suc j)))
+    pub rows-ended : EndedBefore n es time turn endRows
     unfolding endRow
     rows-ended =
         record {
@@ -183,15 +163,58 @@ module _
               ap (λ (i : ℕ). ends (earliest n es (estimates time)) (estimates time) v i) whole);
         }
 
-    -- the part of the ends before the turn's own row
-    pub ended-before : EndedBefore n es time turn (take (place - 0) end)
-    ended-before = subst (λ (xs : List ℕ). EndedBefore n es time turn xs) (sym front-is) rows-ended
+    -- where the start and the end stand that an entry asks for
+    module _ {back lastings sinks : List ℕ} (late : Late es n time turn back lastings sinks) (bounds : Ends n es) (k : ℕ) (l : k < length back) where
+      abbrev edge : Edge
+      edge = late .sound k l .0
+
+      -- so many turns before
+      abbrev earlier : ℕ
+      earlier = turn - 1 - edge .delay
+
+      in-time : earlier < turn - 1
+      in-time = let later = late .sound k l .2 in let soon = late .sound k l .3 in omega arith
+
+      task : edge .source < n
+      task = bounds edge (late .sound k l .1) .0
+
+      in-starts : place - getD back k 0 ≡ earlier * n + edge .source
+      in-starts = source-place turn n (getD back k 0) edge (so-far .placed) (late .sound k l .3) (late .sound k l .4 .0)
+
+      in-ends : length endRows - getD back k 0 ≡ earlier * n + edge .source
+      in-ends = source-place turn n (getD back k 0) edge (rows-ended .long) (late .sound k l .3) (late .sound k l .4 .0)
+
+      pub row-start : getD starts (place - getD back k 0) 0 ≡ earliest n es (estimates time) (edge .source) (suc earlier)
+      unfolding turnRow
+      row-start =
+          ap (λ (i : ℕ). getD starts i 0) in-starts ∙
+          (ap (λ (xs : List ℕ). getD xs (earlier * n + edge .source) 0) (so-far .started) ∙
+          (List·getD-append (rows (turn - 1) (λ j. turnRow n es time (suc j))) (drop place kept) 0 (earlier * n + edge .source)
+          (omega (
+            arith,
+            place-within n (turn - 1) earlier (edge .source) in-time task,
+            rows-length n (λ j. turnRow n es time (suc j)) (λ j. row-length n es time (suc j) refl) (turn - 1),
+          )) ∙
+          (rows-at n (λ j. turnRow n es time (suc j)) (λ j. row-length n es time (suc j) refl) (turn - 1) earlier (edge .source) in-time task ∙
+          getD-tabulate n (λ u. earliest n es (estimates time) u (suc earlier)) 0 (edge .source) task)))
+
+      row-end : getD endRows (length endRows - getD back k 0) 0 ≡ earliest n es (estimates time) (edge .source) (suc earlier) + time (edge .source)
+      unfolding endRow
+      row-end =
+          ap (λ (i : ℕ). getD endRows i 0) in-ends ∙
+          (rows-at n (λ j. endRow n es time (suc j)) (λ j. end-length n es time (suc j)) (turn - 1) earlier (edge .source) in-time task ∙
+          getD-tabulate n (λ u. ends (earliest n es (estimates time)) (estimates time) u (suc earlier)) 0 (edge .source) task)
+
+      entry-ends : getD endRows (length endRows - getD back k 0) 0 ≡ getD starts (place - getD back k 0) 0 + getD lastings k 0
+      entry-ends = omega (arith, row-start, row-end, late .sound k l .4 .1)
+
+    pub row-ends : {back lastings sinks : List ℕ} → Late es n time turn back lastings sinks → Ends n es → EndsOf back lastings place starts endRows
+    row-ends late bounds k l = entry-ends late bounds k l
 
     pub turned-more :
-        {row made : List ℕ} → turn ≤ turns → place + n ≤ length starts → place + n ≤ length end → row ≡ turnRow n es time turn →
-        made ≡ endRow n es time turn →
-        Turned n es time turns kept blank (place + n) (turn + 1) (putMid place (place + n - place) starts row) (putMid place (place + n - place) end made)
-    turned-more {row} {made} more room end-fits started made-is =
+        {row : List ℕ} → turn ≤ turns → place + n ≤ length starts → row ≡ turnRow n es time turn →
+        Turned n es time turns kept (place + n) (turn + 1) (putMid place (place + n - place) starts row)
+    turned-more {row} more room started =
         let count : suc (turn - 1) ≡ turn + 1 - 1 = omega (arith, next) in
         let step : turn ≡ turn + 1 - 1 = omega arith in
         record {
@@ -202,12 +225,7 @@ module _
               rows-more n (λ k. turnRow n es time (suc k)) (λ k. row-length n es time (suc k) refl) (turn - 1) place kept (so-far .placed) (so-far .started)
               (started ∙ ap (λ (j : ℕ). turnRow n es time j) (sym next)) ∙
               ap (λ (j : ℕ). rows j (λ k. turnRow n es time (suc k)) ++ drop (place + n) kept) count;
-          ended =
-              rows-more n (λ k. endRow n es time (suc k)) (λ k. end-length n es time (suc k)) (turn - 1) place blank (so-far .placed) (so-far .ended)
-              (made-is ∙ ap (λ (j : ℕ). endRow n es time j) (sym next)) ∙
-              ap (λ (j : ℕ). rows j (λ k. endRow n es time (suc k)) ++ drop (place + n) blank) count;
           starts-long = put-length place n starts row room (row-length n es time turn started) ∙ so-far .starts-long;
-          end-long = put-length place n end made end-fits (ap length made-is ∙ end-length n es time turn) ∙ so-far .end-long;
         }
 
     pub turned-all : turns < turn → starts ≡ turnRows n es time turns ++ drop (n * turns) kept

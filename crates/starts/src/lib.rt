@@ -15,7 +15,6 @@ use turn::first_turn;
 use waits::await_earlier;
 use waits::chain_delays;
 use waits::clear;
-use waits::ends_into;
 use waits::settle;
 use waits::take_chain;
 
@@ -175,20 +174,18 @@ pub fn latency<'a>(
     latency_along(source, sink, delay, source, sink, 0, false, time, output)
 }
 
-// The earliest starts of the first turns, turn by turn at the front of a list; elements past them keep what they held. Another list has room for
-// the ends of these turns.
-fn turns_with<'a, 'b>(
+// The earliest starts of the first turns, turn by turn at the front of a list; elements past them keep what they held.
+pub fn turns_into<'a>(
     source: &'a [u8],
     sink: &'a [u8],
     delay: &'a [u8],
     time: &'a [u16],
     turns: usize,
-    end: &'b mut [u32],
-    starts: &'b mut [u32],
+    starts: &mut [u32],
 )
     requires { ⌜ (length (now sink) ≡ length (now source)) × (length (now delay) ≡ length (now source)) ⌝ }
     requires { ⌜ length (now source) ≤ 320 ⌝ }
-    requires { ⌜ (length (now time) ≤ 64) × (turns ≤ 64) × (length (now time) * turns ≤ length (now starts)) × (length (now time) * turns ≤ length (now end)) ⌝ }
+    requires { ⌜ (length (now time) ≤ 64) × (turns ≤ 64) × (length (now time) * turns ≤ length (now starts)) ⌝ }
     requires { ⌜ Ends (length (now time)) (edgesOf (now source) (now sink) (now delay)) ⌝ }
     requires { ⌜ zeroCycle (length (now time)) (edgesOf (now source) (now sink) (now delay)) ≡ false ⌝ }
     requires { ⌜ FileTimes (now time) ⌝ }
@@ -212,6 +209,7 @@ fn turns_with<'a, 'b>(
     let mut link: [u16; 320] = [0; 320];
     chain_delays(delay, &mut head, &mut link);
     let mut back: [u16; 320] = [0; 320];
+    let mut lasting: [u16; 320] = [0; 320];
     let mut late_sink: [u8; 320] = [0; 320];
     clear(&mut starts[0..tasks * turns]);
     let mut late = 0;
@@ -221,9 +219,11 @@ fn turns_with<'a, 'b>(
         let next = at + tasks;
         await_earlier(
             &back[0..late],
+            &lasting[0..late],
             &late_sink[0..late],
-            &end[0..at],
-            &mut starts[at..next],
+            at,
+            next,
+            starts,
         );
         settle_along(
             source,
@@ -236,46 +236,21 @@ fn turns_with<'a, 'b>(
             time,
             &mut starts[at..next],
         );
-        ends_into(time, &starts[at..next], &mut end[at..next]);
         late = take_chain(
             source,
             sink,
             delay,
+            time,
             &head,
             &link,
             turn,
             tasks,
             late,
             &mut back,
+            &mut lasting,
             &mut late_sink,
         );
         at = next;
         turn += 1;
     }
-}
-
-// The same with room of its own for the ends, no more of it than a small desk needs.
-pub fn turns_into<'a>(
-    source: &'a [u8],
-    sink: &'a [u8],
-    delay: &'a [u8],
-    time: &'a [u16],
-    turns: usize,
-    starts: &mut [u32],
-)
-    requires { ⌜ (length (now sink) ≡ length (now source)) × (length (now delay) ≡ length (now source)) ⌝ }
-    requires { ⌜ length (now source) ≤ 320 ⌝ }
-    requires { ⌜ (length (now time) ≤ 64) × (turns ≤ 64) × (length (now time) * turns ≤ length (now starts)) ⌝ }
-    requires { ⌜ Ends (length (now time)) (edgesOf (now source) (now sink) (now delay)) ⌝ }
-    requires { ⌜ zeroCycle (length (now time)) (edgesOf (now source) (now sink) (now delay)) ≡ false ⌝ }
-    requires { ⌜ FileTimes (now time) ⌝ }
-    ensures { λ _. ⌜ now (starts .exit) ≡ turnRows (length (now (time .entry))) (edgesOf (now (source .entry)) (now (sink .entry)) (now (delay .entry))) (at (now (time .entry))) turns ++ drop (length (now (time .entry)) * turns) (now (starts .entry)) ⌝ }
-{
-    if time.len() * turns <= 512 {
-        let mut few: [u32; 512] = [0; 512];
-        turns_with(source, sink, delay, time, turns, &mut few, starts);
-        return;
-    }
-    let mut many: [u32; 4096] = [0; 4096];
-    turns_with(source, sink, delay, time, turns, &mut many, starts);
 }

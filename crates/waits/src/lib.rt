@@ -7,9 +7,9 @@ ghost use lib.ListN.{length, getD, replicate};
 ghost use Rattle.model.specs.Lists.{tabulate};
 ghost use Rattle.model.specs.Tasks.{Edge, Ends};
 ghost use Rattle.records.specs.Columns.{edgesOf, zeros, at};
-ghost use Rattle.waits.specs.Waits.{Settles, Awaits};
+ghost use Rattle.waits.specs.Waits.{Settles};
 ghost use Rattle.waits.specs.Rounds.{Raised};
-ghost use Rattle.waits.specs.Chains.{ChainedBy, Gathered, WaitsAt, Late};
+ghost use Rattle.waits.specs.Chains.{ChainedBy, Gathered, WaitsAt, RowAwaits};
 
 // What one round over the edges did: whether it raised a start, and whether it ended because one would have to pass the limit.
 struct Round {
@@ -99,22 +99,26 @@ pub fn settle<'a>(
     }
 }
 
-// Raises the starts of a turn to what edges of delay 1 or more ask for, whose sources ended in earlier turns: `back` says how many places before the end
-// of the list the end of a source stands.
-pub fn await_earlier<'a>(back: &'a [u16], sink: &'a [u8], ended: &'a [u32], row: &mut [u32])
-    requires { ⌜ length (now sink) ≡ length (now back) ⌝ }
-    requires { ⌜ ((k : ℕ) → k < length (now back) → (1 ≤ getD (now back) k 0) × (getD (now back) k 0 ≤ length (now ended)) × (getD (now sink) k 0 < length (now row))) ⌝ }
-    ensures size { λ _. ⌜ length (now (row .exit)) ≡ length (now (row .entry)) ⌝ }
-    ensures kept { λ _. ⌜ ((es : List Edge) (turn : ℕ) → Late es (length (now (row .entry))) turn (now (back .entry)) (now (sink .entry)) → length (now (ended .entry)) ≡ (turn - 1) * length (now (row .entry)) → Awaits (length (now (row .entry))) es (now (ended .entry)) turn (at (now (row .entry))) (at (now (row .exit)))) ⌝ }
-    ensures lowest { λ _. ⌜ ((es : List Edge) (turn : ℕ) → Late es (length (now (row .entry))) turn (now (back .entry)) (now (sink .entry)) → length (now (ended .entry)) ≡ (turn - 1) * length (now (row .entry)) → (f : ℕ → ℕ) → Awaits (length (now (row .entry))) es (now (ended .entry)) turn (at (now (row .entry))) f → (v : ℕ) → v < length (now (row .entry)) → at (now (row .exit)) v ≤ f v) ⌝ }
+// Raises the starts of a turn to what edges of delay 1 or more ask for, whose sources ended in earlier turns. The list holds the starts turn by turn, those of
+// this turn from place `first` up to `next`: `back` says how many places before them the start of a source stands, `lasting` how long the source takes.
+pub fn await_earlier<'a>(
+    back: &'a [u16],
+    lasting: &'a [u16],
+    sink: &'a [u8],
+    first: usize,
+    next: usize,
+    starts: &mut [u32],
+)
+    requires { ⌜ (length (now lasting) ≡ length (now back)) × (length (now sink) ≡ length (now back)) × (first ≤ next) × (next ≤ length (now starts)) ⌝ }
+    requires { ⌜ ((k : ℕ) → k < length (now back) → (1 ≤ getD (now back) k 0) × (getD (now back) k 0 ≤ first) × (first + getD (now sink) k 0 < next) × (getD (now starts) (first - getD (now back) k 0) 0 ≤ 1073741824)) ⌝ }
+    ensures { λ _. ⌜ RowAwaits (now (back .entry)) (now (lasting .entry)) (now (sink .entry)) first next (now (starts .entry)) (now (starts .exit)) ⌝ }
 {
-    let at = ended.len();
     let mut j = 0;
     while j < back.len() {
-        let end = ended[at - back[j] as usize];
-        let t = sink[j] as usize;
-        if row[t] < end {
-            row[t] = end;
+        let end = starts[first - back[j] as usize] + lasting[j] as u32;
+        let t = first + sink[j] as usize;
+        if starts[t] < end {
+            starts[t] = end;
         }
         j += 1;
     }
@@ -134,32 +138,36 @@ pub fn chain_delays<'a>(delay: &[u8], head: &'a mut [u16], link: &'a mut [u16])
     }
 }
 
-// When so many turns are done, the edges of that delay begin to let turns wait: takes them from their chain to those that do already, at the front of two
+// When so many turns are done, the edges of that delay begin to let turns wait: takes them from their chain to those that do already, at the front of three
 // lists. Gives how many there are then.
 pub fn take_chain<'a, 'b>(
     source: &'a [u8],
     sink: &'a [u8],
     delay: &'a [u8],
+    time: &'a [u16],
     head: &'a [u16],
     link: &'a [u16],
     done: usize,
     tasks: usize,
     many: usize,
     back: &'b mut [u16],
+    lasting: &'b mut [u16],
     to_sink: &'b mut [u8],
 ) -> usize
     requires { ⌜ (length (now sink) ≡ length (now source)) × (length (now delay) ≡ length (now source)) ⌝ }
-    requires { ⌜ (1 ≤ done) × (done ≤ 64) × (tasks ≤ 64) ⌝ }
+    requires { ⌜ (1 ≤ done) × (done ≤ 64) × (tasks ≤ 64) × (length (now time) ≡ tasks) ⌝ }
     requires { ⌜ Ends tasks (edgesOf (now source) (now sink) (now delay)) ⌝ }
     requires { ⌜ ChainedBy (now delay) 0 (now head) (now link) ⌝ }
-    requires { ⌜ Gathered (now source) (now sink) (now delay) tasks (WaitsAt (now delay) done) (now back) (now «to_sink») many ⌝ }
-    ensures { λ r. ⌜ Gathered (now (source .entry)) (now (sink .entry)) (now (delay .entry)) tasks (WaitsAt (now (delay .entry)) (done + 1)) (now (back .exit)) (now («to_sink» .exit)) r ⌝ }
+    requires { ⌜ Gathered (now source) (now sink) (now delay) tasks (at (now time)) (WaitsAt (now delay) done) (now back) (now lasting) (now «to_sink») many ⌝ }
+    ensures { λ r. ⌜ Gathered (now (source .entry)) (now (sink .entry)) (now (delay .entry)) tasks (at (now (time .entry))) (WaitsAt (now (delay .entry)) (done + 1)) (now (back .exit)) (now (lasting .exit)) (now («to_sink» .exit)) r ⌝ }
 {
     let far = done * tasks;
     let mut count = many;
     let mut j = head[done] as usize;
     while j < delay.len() {
-        back[count] = (far - source[j] as usize) as u16;
+        let s = source[j] as usize;
+        back[count] = (far - s) as u16;
+        lasting[count] = time[s];
         to_sink[count] = sink[j];
         count += 1;
         j = link[j] as usize;
