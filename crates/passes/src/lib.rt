@@ -3,21 +3,21 @@ ghost use mathlib.Core.Path.{_≡_};
 ghost use mathlib.Core.Bool.{true};
 ghost use mathlib.Core.List.{List};
 ghost use Prim.Native.Nat.{ℕ, _≤_, _<_, max};
-ghost use lib.ListN.{length, getD};
+ghost use lib.ListN.{length, getD, set};
 ghost use Rattle.model.specs.Tasks.{Edge, Ends};
 ghost use Rattle.records.specs.Columns.{edgesOf, at};
 ghost use Rattle.order.specs.Order.{InOrder};
 ghost use Rattle.passes.specs.Passes.{Passable, Bounded, Settled, BackOrder};
 use waits::settle;
 
-// The later of two times.
-fn later(a: u32, b: u32) -> u32
-    ensures { λ r. ⌜ r ≡ max a b ⌝ }
+// Raises a start to an end, if it is below it. A start that need not be raised is not stored: whatever reads it next need not wait for the comparison.
+fn lift(t: usize, end: u32, row: &mut [u32])
+    requires { ⌜ t < length (now row) ⌝ }
+    ensures { λ _. ⌜ now (row .exit) ≡ set (now (row .entry)) t (max (at (now (row .entry)) t) end) ⌝ }
 {
-    if a < b {
-        return b;
+    if row[t] < end {
+        row[t] = end;
     }
-    a
 }
 
 // Raises starts along the order: once each edge has been kept, what comes after raises its source no more.
@@ -38,7 +38,8 @@ pub fn pass_along<'a>(
     while k < count {
         let s = source[k] as usize;
         let t = sink[k] as usize;
-        row[t] = later(row[t], row[s] + time[s] as u32);
+        let end = row[s] + time[s] as u32;
+        lift(t, end, row);
         k += 1;
     }
 }
@@ -62,7 +63,8 @@ pub fn pass_back<'a>(
         k -= 1;
         let s = sink[k] as usize;
         let t = source[k] as usize;
-        row[t] = later(row[t], row[s] + time[s] as u32);
+        let end = row[s] + time[s] as u32;
+        lift(t, end, row);
     }
 }
 

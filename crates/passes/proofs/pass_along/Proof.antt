@@ -1,8 +1,8 @@
 -- `passes::pass_along` meets its contract: after k steps the first k edges are kept, and no start is above one that it has to keep below.
-use mathlib.Core.Path.{_≡_, refl, _∙_}
+use mathlib.Core.Path.{_≡_, refl, sym, subst, _∙_}
 use mathlib.Core.Logic.{_⊎_, inl, inr}
 use mathlib.Core.List.{List}
-use Prim.Native.Nat.{ℕ, _+_, _-_, _≤_, _<_}
+use Prim.Native.Nat.{ℕ, _+_, _-_, _≤_, _<_, max}
 use native.Mathlib.Nat.{not-suc-le-zero, le-refl}
 use native.Mathlib.Omega.{arith}
 use borrow.Author.Needs.{needs}
@@ -32,80 +32,91 @@ earlier {source} {sink} {k = k} listed l i below = go (order k i)
     go (inl m) = inr (omega arith)
     go (inr m) = inl (m, listed .ahead i k (omega arith) l)
 
+abbrev begin : tie.In-loop Inv-loop μ-loop → tie.Start Inv-loop μ-loop
+begin i = i .before .before .before .before .before .before
+
+-- the edge of the step is in the lists, and its ends in the row
+ends : (i : tie.In-loop Inv-loop μ-loop) →
+    let args = begin i .args in
+    let k = i .before .loop .k in
+    (k < length (args .source .now)) × (k < length (args .sink .now)) × (getD (args .source .now) k 0 < length (i .before .loop .row)) ×
+    (getD (args .sink .now) k 0 < length (i .before .loop .row)) × (length (args .time .now) ≡ length (i .before .loop .row))
+ends i =
+    let asked = begin i .pre in
+    let same = i .before .loop .inv .1 in
+    let tasks = asked .1 .0 (i .before .loop .k) (i .loop-test .taken) in
+    (omega (arith, asked .0 .0, i .loop-test .taken), omega (arith, asked .0 .1, i .loop-test .taken), omega (arith, tasks .0, same), omega (arith, tasks .1, same), omega (arith, asked .0 .2, same))
+
 loop-holds : tie.Need-loop-holds Inv-loop μ-loop
 loop-holds c =
     let start = c .before .before .before .before in
     (omega arith, refl, start .pre .1 .1, λ es listed. passed-none es (at (start .args .time .now)) (start .args .source .now) (start .args .sink .now) (λ i. i < 0) (start .args .row .now) (λ i l. not-suc-le-zero l))
 
 shared-slice-read-s : tie.Need-shared-slice-read-s Inv-loop μ-loop
-shared-slice-read-s c = omega (arith, c .before .before .loop .inv .1, c .before .before .before .before .before .before .before .pre .0 .0, c .before .before .before .before .before .before .before .pre .0 .1, c .before .before .before .before .before .before .before .pre .0 .2, c .before .before .before .before .before .before .before .pre .1 .0 (c .before .before .loop .k) (c .before .loop-test .taken) .0, c .before .before .before .before .before .before .before .pre .1 .0 (c .before .before .loop .k) (c .before .loop-test .taken) .1)
+shared-slice-read-s c = omega (arith, ends (c .before))
 
 cast-s : tie.Need-cast-s Inv-loop μ-loop
 cast-s c = omega (arith, c .shared-slice-known4 .given (c .before .before .loop .k))
 
 shared-slice-read-t : tie.Need-shared-slice-read-t Inv-loop μ-loop
-shared-slice-read-t c = omega (arith, c .before .before .before .loop .inv .1, c .before .before .before .before .before .before .before .before .pre .0 .0, c .before .before .before .before .before .before .before .before .pre .0 .1, c .before .before .before .before .before .before .before .before .pre .0 .2, c .before .before .before .before .before .before .before .before .pre .1 .0 (c .before .before .before .loop .k) (c .before .before .loop-test .taken) .0, c .before .before .before .before .before .before .before .before .pre .1 .0 (c .before .before .before .loop .k) (c .before .before .loop-test .taken) .1)
+shared-slice-read-t c = omega (arith, ends (c .before .before))
 
 cast-t : tie.Need-cast-t Inv-loop μ-loop
 cast-t c = omega (arith, c .shared-slice-known5 .given (c .before .before .before .loop .k))
 
-mul-later : tie.Need-mul-later Inv-loop μ-loop
-mul-later c = omega (arith, c .before .before .before .loop .inv .1, c .before .before .before .before .before .before .before .before .pre .0 .0, c .before .before .before .before .before .before .before .before .pre .0 .1, c .before .before .before .before .before .before .before .before .pre .0 .2, c .before .before .before .before .before .before .before .before .pre .1 .0 (c .before .before .before .loop .k) (c .before .before .loop-test .taken) .0, c .before .before .before .before .before .before .before .before .pre .1 .0 (c .before .before .before .loop .k) (c .before .before .loop-test .taken) .1)
+mul-end : tie.Need-mul-end Inv-loop μ-loop
+mul-end c = omega (arith, ends (c .before .before))
 
-slice-read-later : tie.Need-slice-read-later Inv-loop μ-loop
-slice-read-later c = omega (arith, c .before .before .before .before .loop .inv .1, c .before .before .before .before .before .before .before .before .before .pre .0 .0, c .before .before .before .before .before .before .before .before .before .pre .0 .1, c .before .before .before .before .before .before .before .before .before .pre .0 .2, c .before .before .before .before .before .before .before .before .before .pre .1 .0 (c .before .before .before .before .loop .k) (c .before .before .before .loop-test .taken) .0, c .before .before .before .before .before .before .before .before .before .pre .1 .0 (c .before .before .before .before .loop .k) (c .before .before .before .loop-test .taken) .1)
+slice-read-end : tie.Need-slice-read-end Inv-loop μ-loop
+slice-read-end c = omega (arith, ends (c .before .before .before))
 
-mul-later-2 : tie.Need-mul-later-2 Inv-loop μ-loop
-mul-later-2 c = omega (arith, c .before .before .before .before .loop .inv .1, c .before .before .before .before .before .before .before .before .before .pre .0 .0, c .before .before .before .before .before .before .before .before .before .pre .0 .1, c .before .before .before .before .before .before .before .before .before .pre .0 .2, c .before .before .before .before .before .before .before .before .before .pre .1 .0 (c .before .before .before .before .loop .k) (c .before .before .before .loop-test .taken) .0, c .before .before .before .before .before .before .before .before .before .pre .1 .0 (c .before .before .before .before .loop .k) (c .before .before .before .loop-test .taken) .1)
+mul-end-2 : tie.Need-mul-end-2 Inv-loop μ-loop
+mul-end-2 c = omega (arith, ends (c .before .before .before))
 
-slice-read-later-2 : tie.Need-slice-read-later-2 Inv-loop μ-loop
-slice-read-later-2 c = omega (arith, c .before .before .before .before .before .loop .inv .1, c .before .before .before .before .before .before .before .before .before .before .pre .0 .0, c .before .before .before .before .before .before .before .before .before .before .pre .0 .1, c .before .before .before .before .before .before .before .before .before .before .pre .0 .2, c .before .before .before .before .before .before .before .before .before .before .pre .1 .0 (c .before .before .before .before .before .loop .k) (c .before .before .before .before .loop-test .taken) .0, c .before .before .before .before .before .before .before .before .before .before .pre .1 .0 (c .before .before .before .before .before .loop .k) (c .before .before .before .before .loop-test .taken) .1)
+shared-slice-read-end : tie.Need-shared-slice-read-end Inv-loop μ-loop
+shared-slice-read-end c = omega (arith, ends (c .before .before .before .before))
 
-mul-later-3 : tie.Need-mul-later-3 Inv-loop μ-loop
-mul-later-3 c = omega (arith, c .before .before .before .before .before .loop .inv .1, c .before .before .before .before .before .before .before .before .before .before .pre .0 .0, c .before .before .before .before .before .before .before .before .before .before .pre .0 .1, c .before .before .before .before .before .before .before .before .before .before .pre .0 .2, c .before .before .before .before .before .before .before .before .before .before .pre .1 .0 (c .before .before .before .before .before .loop .k) (c .before .before .before .before .loop-test .taken) .0, c .before .before .before .before .before .before .before .before .before .before .pre .1 .0 (c .before .before .before .before .before .loop .k) (c .before .before .before .before .loop-test .taken) .1)
+cast-end : tie.Need-cast-end Inv-loop μ-loop
+cast-end c = let i = c .before .before .before .before in omega (arith, c .shared-slice-known6 .given (getD (begin i .args .source .now) (i .before .loop .k) 0))
 
-shared-slice-read-later : tie.Need-shared-slice-read-later Inv-loop μ-loop
-shared-slice-read-later c = omega (arith, c .before .before .before .before .before .before .loop .inv .1, c .before .before .before .before .before .before .before .before .before .before .before .pre .0 .0, c .before .before .before .before .before .before .before .before .before .before .before .pre .0 .1, c .before .before .before .before .before .before .before .before .before .before .before .pre .0 .2, c .before .before .before .before .before .before .before .before .before .before .before .pre .1 .0 (c .before .before .before .before .before .before .loop .k) (c .before .before .before .before .before .loop-test .taken) .0, c .before .before .before .before .before .before .before .before .before .before .before .pre .1 .0 (c .before .before .before .before .before .before .loop .k) (c .before .before .before .before .before .loop-test .taken) .1)
-
-cast-later : tie.Need-cast-later Inv-loop μ-loop
-cast-later c = omega (arith, c .shared-slice-known6 .given (getD (c .before .before .before .before .before .before .before .before .before .before .before .args .source .now) (c .before .before .before .before .before .before .loop .k) 0))
-
-add-later : tie.Need-add-later Inv-loop μ-loop
+add-end : tie.Need-add-end Inv-loop μ-loop
 unfolding at
-add-later c =
-    let start = c .before .before .before .before .before .before .before .before .before .before .before in
-    let ends = start .pre .1 .0 (c .before .before .before .before .before .before .loop .k) (c .before .before .before .before .before .loop-test .taken) in
-    let inv = c .before .before .before .before .before .before .loop .inv in
-    omega (arith, sum-fits (c .before .before .before .before .before .before .loop .k) (inv .2) (c .before .before .before .before .before .loop-test .taken) (omega (arith, ends .0, inv .1)) (omega (arith, ends .1, inv .1)))
+add-end c =
+    let i = c .before .before .before .before in
+    let inv = i .before .loop .inv in
+    omega (arith, sum-fits (i .before .loop .k) (inv .2) (i .loop-test .taken) (ends i .2) (ends i .3))
 
-later-requires : tie.Need-later-requires Inv-loop μ-loop
-later-requires c κs = search needs
-
-mul-row : tie.Need-mul-row Inv-loop μ-loop
-mul-row c = omega (arith, c .before .before .before .before .before .before .before .loop .inv .1, c .before .before .before .before .before .before .before .before .before .before .before .before .pre .0 .0, c .before .before .before .before .before .before .before .before .before .before .before .before .pre .0 .1, c .before .before .before .before .before .before .before .before .before .before .before .before .pre .0 .2, c .before .before .before .before .before .before .before .before .before .before .before .before .pre .1 .0 (c .before .before .before .before .before .before .before .loop .k) (c .before .before .before .before .before .before .loop-test .taken) .0, c .before .before .before .before .before .before .before .before .before .before .before .before .pre .1 .0 (c .before .before .before .before .before .before .before .loop .k) (c .before .before .before .before .before .before .loop-test .taken) .1)
-
-slice-write-row : tie.Need-slice-write-row Inv-loop μ-loop
-slice-write-row c = omega (arith, c .before .before .before .before .before .before .before .loop .inv .1, c .before .before .before .before .before .before .before .before .before .before .before .before .pre .0 .0, c .before .before .before .before .before .before .before .before .before .before .before .before .pre .0 .1, c .before .before .before .before .before .before .before .before .before .before .before .before .pre .0 .2, c .before .before .before .before .before .before .before .before .before .before .before .before .pre .1 .0 (c .before .before .before .before .before .before .before .loop .k) (c .before .before .before .before .before .before .loop-test .taken) .0, c .before .before .before .before .before .before .before .before .before .before .before .before .pre .1 .0 (c .before .before .before .before .before .before .before .loop .k) (c .before .before .before .before .before .before .loop-test .taken) .1)
+lift-requires : tie.Need-lift-requires Inv-loop μ-loop
+lift-requires c κs = ends (c .before .before .before .before .before) .3
 
 add-k : tie.Need-add-k Inv-loop μ-loop
-add-k c = omega (arith, c .before .before .before .before .before .before .before .loop .inv .1, c .before .before .before .before .before .before .before .before .before .before .before .before .pre .0 .0, c .before .before .before .before .before .before .before .before .before .before .before .before .pre .0 .1, c .before .before .before .before .before .before .before .before .before .before .before .before .pre .0 .2, c .before .before .before .before .before .before .before .before .before .before .before .before .pre .1 .0 (c .before .before .before .before .before .before .before .loop .k) (c .before .before .before .before .before .before .loop-test .taken) .0, c .before .before .before .before .before .before .before .before .before .before .before .before .pre .1 .0 (c .before .before .before .before .before .before .before .loop .k) (c .before .before .before .before .before .before .loop-test .taken) .1)
+add-k c = omega (arith, c .before .before .before .before .before .before .before .before .loop-test .taken, c .before .before .before .before .before .before .before .before .before .before .before .before .before .before .pre .0)
 
 loop-less : tie.Need-loop-less Inv-loop μ-loop
-loop-less c = omega (arith, c .before .before .before .before .before .before .before .loop .inv .1, c .before .before .before .before .before .before .before .before .before .before .before .before .pre .0 .0, c .before .before .before .before .before .before .before .before .before .before .before .before .pre .0 .1, c .before .before .before .before .before .before .before .before .before .before .before .before .pre .0 .2, c .before .before .before .before .before .before .before .before .before .before .before .before .pre .1 .0 (c .before .before .before .before .before .before .before .loop .k) (c .before .before .before .before .before .before .loop-test .taken) .0, c .before .before .before .before .before .before .before .before .before .before .before .before .pre .1 .0 (c .before .before .before .before .before .before .before .loop .k) (c .before .before .before .before .before .before .loop-test .taken) .1)
+loop-less c = omega (arith, c .before .before .before .before .before .before .before .before .loop-test .taken)
 
 loop-again : tie.Need-loop-again Inv-loop μ-loop
 unfolding at
 loop-again c =
-    let start = c .before .before .before .before .before .before .before .before .before .before .before .before in
-    let inv = c .before .before .before .before .before .before .before .loop .inv in
-    let k = c .before .before .before .before .before .before .before .loop .k in
-    let ends = start .pre .1 .0 k (c .before .before .before .before .before .before .loop-test .taken) in
-    let from : getD (start .args .source .now) k 0 < length (c .before .before .before .before .before .before .before .loop .row) = omega (arith, ends .0, inv .1) in
-    let to : getD (start .args .sink .now) k 0 < length (c .before .before .before .before .before .before .before .loop .row) = omega (arith, ends .1, inv .1) in (
+    let i = c .before .before .before .before .before .before .before .before in
+    let args = begin i .args in
+    let inv = i .before .loop .inv in
+    let row = i .before .loop .row in
+    let k = i .before .loop .k in
+    let t = getD (args .sink .now) k 0 in
+    let x = max (at row t) (at row (getD (args .source .now) k 0) + at (args .time .now) (getD (args .source .now) k 0)) in
+    subst
+    (λ (xs : List ℕ).
+    (k + 1 ≤ args .count) × (length xs ≡ length (args .row .now)) × Passable (args .source .now) (args .sink .now) (args .count) (args .time .now) xs ×
+    ((es : List Edge) → InOrder es (args .source .now) (args .sink .now) (args .count) →
+    Passed es (at (args .time .now)) (args .source .now) (args .sink .now) (λ i. i < k + 1) (args .row .now) xs))
+    (sym (c .before .before .lift .ensures)) (
       omega arith,
-      length-set (c .before .before .before .before .before .before .before .loop .row) (getD (start .args .sink .now) k 0) (c .later .result) ∙ inv .1,
-      passable-more k (c .later .result) (inv .2) (c .before .before .before .before .before .before .loop-test .taken) from to (c .later .ensures),
-      λ es listed. passed-more (start .args .source .now) (start .args .sink .now) (c .before .before .before .before .before .before .before .loop .row) k from to (at (start .args .time .now)) (c .later .ensures) (inv .1) (inv .3 es listed) (listed .sound k (c .before .before .before .before .before .before .loop-test .taken)) (earlier listed (c .before .before .before .before .before .before .loop-test .taken)) (listed .ahead k k (le-refl k) (c .before .before .before .before .before .before .loop-test .taken)),
+      length-set row t x ∙ inv .1,
+      passable-more k x (inv .2) (i .loop-test .taken) (ends i .2) (ends i .3) refl,
+      λ es listed.
+          passed-more (args .source .now) (args .sink .now) row k (ends i .2) (ends i .3) (at (args .time .now)) {x = x} refl (inv .1) (inv .3 es listed)
+          (listed .sound k (i .loop-test .taken)) (earlier listed (i .loop-test .taken)) (listed .ahead k k (le-refl k) (i .loop-test .taken)),
     )
 
 same-length : tie.Need-same-length Inv-loop μ-loop
@@ -127,17 +138,13 @@ pass-along-spec =
     cast-s
     shared-slice-read-t
     cast-t
-    mul-later
-    slice-read-later
-    mul-later-2
-    slice-read-later-2
-    mul-later-3
-    shared-slice-read-later
-    cast-later
-    add-later
-    later-requires
-    mul-row
-    slice-write-row
+    mul-end
+    slice-read-end
+    mul-end-2
+    shared-slice-read-end
+    cast-end
+    add-end
+    lift-requires
     add-k
     loop-less
     loop-again

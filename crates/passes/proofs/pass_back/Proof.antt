@@ -1,8 +1,8 @@
 -- `passes::pass_back` meets its contract: as along the order, but from its end, where the last edges are kept already.
-use mathlib.Core.Path.{_≡_, refl, sym, _∙_}
+use mathlib.Core.Path.{_≡_, refl, sym, subst, _∙_}
 use mathlib.Core.Logic.{_⊎_, inl, inr}
 use mathlib.Core.List.{List}
-use Prim.Native.Nat.{ℕ, _+_, _-_, _≤_, _<_}
+use Prim.Native.Nat.{ℕ, _+_, _-_, _≤_, _<_, max}
 use native.Mathlib.Nat.{le-refl}
 use native.Mathlib.Omega.{arith}
 use borrow.Author.Needs.{needs}
@@ -31,6 +31,29 @@ later-ones {source} {sink} {count = count} {k = k} {j = j} listed is i place = g
     go (inl m) = inl ((m, place .1), λ q. listed .ahead j i (place .0) (place .1) (sym q))
     go (inr m) = let l = place .0 in inr (omega arith)
 
+abbrev begin : tie.In-loop Inv-loop μ-loop → tie.Start Inv-loop μ-loop
+begin i = i .before .before .before .before .before .before
+
+-- the edge of the step
+abbrev place : tie.In-loop Inv-loop μ-loop → ℕ
+place i = i .before .loop .k - 1
+
+listed-place : (i : tie.In-loop Inv-loop μ-loop) → place i < begin i .args .count
+listed-place i = omega (arith, i .before .loop .inv .0, i .loop-test .taken)
+
+-- it is in the lists, and its ends in the row
+ends : (i : tie.In-loop Inv-loop μ-loop) →
+    let args = begin i .args in
+    let k = place i in
+    (k < length (args .source .now)) × (k < length (args .sink .now)) × (getD (args .sink .now) k 0 < length (i .before .loop .row)) ×
+    (getD (args .source .now) k 0 < length (i .before .loop .row)) × (length (args .time .now) ≡ length (i .before .loop .row))
+ends i =
+    let asked = begin i .pre in
+    let same = i .before .loop .inv .1 in
+    let inside = listed-place i in
+    let tasks = asked .1 .0 (place i) inside in
+    (omega (arith, asked .0 .0, inside), omega (arith, asked .0 .1, inside), omega (arith, tasks .1, same), omega (arith, tasks .0, same), omega (arith, asked .0 .2, same))
+
 loop-holds : tie.Need-loop-holds Inv-loop μ-loop
 loop-holds c =
     let start = c .before .before .before .before in
@@ -40,74 +63,69 @@ sub-k : tie.Need-sub-k Inv-loop μ-loop
 sub-k c = omega (arith, c .loop-test .taken)
 
 shared-slice-read-s : tie.Need-shared-slice-read-s Inv-loop μ-loop
-shared-slice-read-s c = omega (arith, c .before .before .loop .inv .0, c .before .before .loop .inv .1, c .before .loop-test .taken, c .before .before .before .before .before .before .before .pre .0 .0, c .before .before .before .before .before .before .before .pre .0 .1, c .before .before .before .before .before .before .before .pre .0 .2, c .before .before .before .before .before .before .before .pre .1 .0 (c .before .before .loop .k - 1) (omega (arith, c .before .before .loop .inv .0, c .before .loop-test .taken)) .0, c .before .before .before .before .before .before .before .pre .1 .0 (c .before .before .loop .k - 1) (omega (arith, c .before .before .loop .inv .0, c .before .loop-test .taken)) .1)
+shared-slice-read-s c = omega (arith, ends (c .before))
 
 cast-s : tie.Need-cast-s Inv-loop μ-loop
-cast-s c = omega (arith, c .shared-slice-known4 .given (c .before .before .loop .k - 1))
+cast-s c = omega (arith, c .shared-slice-known4 .given (place (c .before)))
 
 shared-slice-read-t : tie.Need-shared-slice-read-t Inv-loop μ-loop
-shared-slice-read-t c = omega (arith, c .before .before .before .loop .inv .0, c .before .before .before .loop .inv .1, c .before .before .loop-test .taken, c .before .before .before .before .before .before .before .before .pre .0 .0, c .before .before .before .before .before .before .before .before .pre .0 .1, c .before .before .before .before .before .before .before .before .pre .0 .2, c .before .before .before .before .before .before .before .before .pre .1 .0 (c .before .before .before .loop .k - 1) (omega (arith, c .before .before .before .loop .inv .0, c .before .before .loop-test .taken)) .0, c .before .before .before .before .before .before .before .before .pre .1 .0 (c .before .before .before .loop .k - 1) (omega (arith, c .before .before .before .loop .inv .0, c .before .before .loop-test .taken)) .1)
+shared-slice-read-t c = omega (arith, ends (c .before .before))
 
 cast-t : tie.Need-cast-t Inv-loop μ-loop
-cast-t c = omega (arith, c .shared-slice-known5 .given (c .before .before .before .loop .k - 1))
+cast-t c = omega (arith, c .shared-slice-known5 .given (place (c .before .before)))
 
-mul-later : tie.Need-mul-later Inv-loop μ-loop
-mul-later c = omega (arith, c .before .before .before .loop .inv .0, c .before .before .before .loop .inv .1, c .before .before .loop-test .taken, c .before .before .before .before .before .before .before .before .pre .0 .0, c .before .before .before .before .before .before .before .before .pre .0 .1, c .before .before .before .before .before .before .before .before .pre .0 .2, c .before .before .before .before .before .before .before .before .pre .1 .0 (c .before .before .before .loop .k - 1) (omega (arith, c .before .before .before .loop .inv .0, c .before .before .loop-test .taken)) .0, c .before .before .before .before .before .before .before .before .pre .1 .0 (c .before .before .before .loop .k - 1) (omega (arith, c .before .before .before .loop .inv .0, c .before .before .loop-test .taken)) .1)
+mul-end : tie.Need-mul-end Inv-loop μ-loop
+mul-end c = omega (arith, ends (c .before .before))
 
-slice-read-later : tie.Need-slice-read-later Inv-loop μ-loop
-slice-read-later c = omega (arith, c .before .before .before .before .loop .inv .0, c .before .before .before .before .loop .inv .1, c .before .before .before .loop-test .taken, c .before .before .before .before .before .before .before .before .before .pre .0 .0, c .before .before .before .before .before .before .before .before .before .pre .0 .1, c .before .before .before .before .before .before .before .before .before .pre .0 .2, c .before .before .before .before .before .before .before .before .before .pre .1 .0 (c .before .before .before .before .loop .k - 1) (omega (arith, c .before .before .before .before .loop .inv .0, c .before .before .before .loop-test .taken)) .0, c .before .before .before .before .before .before .before .before .before .pre .1 .0 (c .before .before .before .before .loop .k - 1) (omega (arith, c .before .before .before .before .loop .inv .0, c .before .before .before .loop-test .taken)) .1)
+slice-read-end : tie.Need-slice-read-end Inv-loop μ-loop
+slice-read-end c = omega (arith, ends (c .before .before .before))
 
-mul-later-2 : tie.Need-mul-later-2 Inv-loop μ-loop
-mul-later-2 c = omega (arith, c .before .before .before .before .loop .inv .0, c .before .before .before .before .loop .inv .1, c .before .before .before .loop-test .taken, c .before .before .before .before .before .before .before .before .before .pre .0 .0, c .before .before .before .before .before .before .before .before .before .pre .0 .1, c .before .before .before .before .before .before .before .before .before .pre .0 .2, c .before .before .before .before .before .before .before .before .before .pre .1 .0 (c .before .before .before .before .loop .k - 1) (omega (arith, c .before .before .before .before .loop .inv .0, c .before .before .before .loop-test .taken)) .0, c .before .before .before .before .before .before .before .before .before .pre .1 .0 (c .before .before .before .before .loop .k - 1) (omega (arith, c .before .before .before .before .loop .inv .0, c .before .before .before .loop-test .taken)) .1)
+mul-end-2 : tie.Need-mul-end-2 Inv-loop μ-loop
+mul-end-2 c = omega (arith, ends (c .before .before .before))
 
-slice-read-later-2 : tie.Need-slice-read-later-2 Inv-loop μ-loop
-slice-read-later-2 c = omega (arith, c .before .before .before .before .before .loop .inv .0, c .before .before .before .before .before .loop .inv .1, c .before .before .before .before .loop-test .taken, c .before .before .before .before .before .before .before .before .before .before .pre .0 .0, c .before .before .before .before .before .before .before .before .before .before .pre .0 .1, c .before .before .before .before .before .before .before .before .before .before .pre .0 .2, c .before .before .before .before .before .before .before .before .before .before .pre .1 .0 (c .before .before .before .before .before .loop .k - 1) (omega (arith, c .before .before .before .before .before .loop .inv .0, c .before .before .before .before .loop-test .taken)) .0, c .before .before .before .before .before .before .before .before .before .before .pre .1 .0 (c .before .before .before .before .before .loop .k - 1) (omega (arith, c .before .before .before .before .before .loop .inv .0, c .before .before .before .before .loop-test .taken)) .1)
+shared-slice-read-end : tie.Need-shared-slice-read-end Inv-loop μ-loop
+shared-slice-read-end c = omega (arith, ends (c .before .before .before .before))
 
-mul-later-3 : tie.Need-mul-later-3 Inv-loop μ-loop
-mul-later-3 c = omega (arith, c .before .before .before .before .before .loop .inv .0, c .before .before .before .before .before .loop .inv .1, c .before .before .before .before .loop-test .taken, c .before .before .before .before .before .before .before .before .before .before .pre .0 .0, c .before .before .before .before .before .before .before .before .before .before .pre .0 .1, c .before .before .before .before .before .before .before .before .before .before .pre .0 .2, c .before .before .before .before .before .before .before .before .before .before .pre .1 .0 (c .before .before .before .before .before .loop .k - 1) (omega (arith, c .before .before .before .before .before .loop .inv .0, c .before .before .before .before .loop-test .taken)) .0, c .before .before .before .before .before .before .before .before .before .before .pre .1 .0 (c .before .before .before .before .before .loop .k - 1) (omega (arith, c .before .before .before .before .before .loop .inv .0, c .before .before .before .before .loop-test .taken)) .1)
+cast-end : tie.Need-cast-end Inv-loop μ-loop
+cast-end c = let i = c .before .before .before .before in omega (arith, c .shared-slice-known6 .given (getD (begin i .args .sink .now) (place i) 0))
 
-shared-slice-read-later : tie.Need-shared-slice-read-later Inv-loop μ-loop
-shared-slice-read-later c = omega (arith, c .before .before .before .before .before .before .loop .inv .0, c .before .before .before .before .before .before .loop .inv .1, c .before .before .before .before .before .loop-test .taken, c .before .before .before .before .before .before .before .before .before .before .before .pre .0 .0, c .before .before .before .before .before .before .before .before .before .before .before .pre .0 .1, c .before .before .before .before .before .before .before .before .before .before .before .pre .0 .2, c .before .before .before .before .before .before .before .before .before .before .before .pre .1 .0 (c .before .before .before .before .before .before .loop .k - 1) (omega (arith, c .before .before .before .before .before .before .loop .inv .0, c .before .before .before .before .before .loop-test .taken)) .0, c .before .before .before .before .before .before .before .before .before .before .before .pre .1 .0 (c .before .before .before .before .before .before .loop .k - 1) (omega (arith, c .before .before .before .before .before .before .loop .inv .0, c .before .before .before .before .before .loop-test .taken)) .1)
-
-cast-later : tie.Need-cast-later Inv-loop μ-loop
-cast-later c = omega (arith, c .shared-slice-known6 .given (getD (c .before .before .before .before .before .before .before .before .before .before .before .args .sink .now) (c .before .before .before .before .before .before .loop .k - 1) 0))
-
-add-later : tie.Need-add-later Inv-loop μ-loop
+add-end : tie.Need-add-end Inv-loop μ-loop
 unfolding at
-add-later c =
-    let start = c .before .before .before .before .before .before .before .before .before .before .before in
-    let inv = c .before .before .before .before .before .before .loop .inv in
-    let inside : c .before .before .before .before .before .before .loop .k - 1 < start .args .count = omega (arith, inv .0, c .before .before .before .before .before .loop-test .taken) in
-    let ends = start .pre .1 .0 (c .before .before .before .before .before .before .loop .k - 1) inside in
-    omega (arith, sum-fits (c .before .before .before .before .before .before .loop .k - 1) (inv .2) inside (omega (arith, ends .1, inv .1)) (omega (arith, ends .0, inv .1)))
+add-end c =
+    let i = c .before .before .before .before in
+    let inv = i .before .loop .inv in
+    omega (arith, sum-fits (place i) (inv .2) (listed-place i) (ends i .2) (ends i .3))
 
-later-requires : tie.Need-later-requires Inv-loop μ-loop
-later-requires c κs = search needs
-
-mul-row : tie.Need-mul-row Inv-loop μ-loop
-mul-row c = omega (arith, c .before .before .before .before .before .before .before .loop .inv .0, c .before .before .before .before .before .before .before .loop .inv .1, c .before .before .before .before .before .before .loop-test .taken, c .before .before .before .before .before .before .before .before .before .before .before .before .pre .0 .0, c .before .before .before .before .before .before .before .before .before .before .before .before .pre .0 .1, c .before .before .before .before .before .before .before .before .before .before .before .before .pre .0 .2, c .before .before .before .before .before .before .before .before .before .before .before .before .pre .1 .0 (c .before .before .before .before .before .before .before .loop .k - 1) (omega (arith, c .before .before .before .before .before .before .before .loop .inv .0, c .before .before .before .before .before .before .loop-test .taken)) .0, c .before .before .before .before .before .before .before .before .before .before .before .before .pre .1 .0 (c .before .before .before .before .before .before .before .loop .k - 1) (omega (arith, c .before .before .before .before .before .before .before .loop .inv .0, c .before .before .before .before .before .before .loop-test .taken)) .1)
-
-slice-write-row : tie.Need-slice-write-row Inv-loop μ-loop
-slice-write-row c = omega (arith, c .before .before .before .before .before .before .before .loop .inv .0, c .before .before .before .before .before .before .before .loop .inv .1, c .before .before .before .before .before .before .loop-test .taken, c .before .before .before .before .before .before .before .before .before .before .before .before .pre .0 .0, c .before .before .before .before .before .before .before .before .before .before .before .before .pre .0 .1, c .before .before .before .before .before .before .before .before .before .before .before .before .pre .0 .2, c .before .before .before .before .before .before .before .before .before .before .before .before .pre .1 .0 (c .before .before .before .before .before .before .before .loop .k - 1) (omega (arith, c .before .before .before .before .before .before .before .loop .inv .0, c .before .before .before .before .before .before .loop-test .taken)) .0, c .before .before .before .before .before .before .before .before .before .before .before .before .pre .1 .0 (c .before .before .before .before .before .before .before .loop .k - 1) (omega (arith, c .before .before .before .before .before .before .before .loop .inv .0, c .before .before .before .before .before .before .loop-test .taken)) .1)
+lift-requires : tie.Need-lift-requires Inv-loop μ-loop
+lift-requires c κs = ends (c .before .before .before .before .before) .3
 
 loop-less : tie.Need-loop-less Inv-loop μ-loop
-loop-less c = omega (arith, c .before .before .before .before .before .before .loop-test .taken)
+loop-less c = omega (arith, c .before .before .before .before .before .before .before .before .loop-test .taken)
 
 loop-again : tie.Need-loop-again Inv-loop μ-loop
 unfolding at
 loop-again c =
-    let start = c .before .before .before .before .before .before .before .before .before .before .before .before in
-    let inv = c .before .before .before .before .before .before .before .loop .inv in
-    let k = c .before .before .before .before .before .before .before .loop .k in
-    let inside : k - 1 < start .args .count = omega (arith, inv .0, c .before .before .before .before .before .before .loop-test .taken) in
-    let is : k ≡ k - 1 + 1 = omega (arith, c .before .before .before .before .before .before .loop-test .taken) in
-    let ends = start .pre .1 .0 (k - 1) inside in
-    let from : getD (start .args .sink .now) (k - 1) 0 < length (c .before .before .before .before .before .before .before .loop .row) = omega (arith, ends .1, inv .1) in
-    let to : getD (start .args .source .now) (k - 1) 0 < length (c .before .before .before .before .before .before .before .loop .row) = omega (arith, ends .0, inv .1) in (
+    let i = c .before .before .before .before .before .before .before .before in
+    let args = begin i .args in
+    let inv = i .before .loop .inv in
+    let row = i .before .loop .row in
+    let k = place i in
+    let inside = listed-place i in
+    let is : i .before .loop .k ≡ k + 1 = omega (arith, i .loop-test .taken) in
+    let t = getD (args .source .now) k 0 in
+    let x = max (at row t) (at row (getD (args .sink .now) k 0) + at (args .time .now) (getD (args .sink .now) k 0)) in
+    subst
+    (λ (xs : List ℕ).
+    (k ≤ args .count) × (length xs ≡ length (args .row .now)) × Passable (args .sink .now) (args .source .now) (args .count) (args .time .now) xs ×
+    ((es : List Edge) → BackOrder es (args .source .now) (args .sink .now) (args .count) →
+    Passed es (at (args .time .now)) (args .sink .now) (args .source .now) (λ i. (k ≤ i) × (i < args .count)) (args .row .now) xs))
+    (sym (c .before .before .lift .ensures)) (
       omega (arith, inv .0),
-      length-set (c .before .before .before .before .before .before .before .loop .row) (getD (start .args .source .now) (k - 1) 0) (c .later .result) ∙ inv .1,
-      passable-more (k - 1) (c .later .result) (inv .2) inside from to (c .later .ensures),
-      λ es listed. passed-more (start .args .sink .now) (start .args .source .now) (c .before .before .before .before .before .before .before .loop .row) (k - 1) from to (at (start .args .time .now)) (c .later .ensures) (inv .1) (inv .3 es listed) (listed .sound (k - 1) inside) (later-ones listed is) (λ q. listed .ahead (k - 1) (k - 1) (le-refl (k - 1)) inside (sym q)),
+      length-set row t x ∙ inv .1,
+      passable-more k x (inv .2) inside (ends i .2) (ends i .3) refl,
+      λ es listed.
+          passed-more (args .sink .now) (args .source .now) row k (ends i .2) (ends i .3) (at (args .time .now)) {x = x} refl (inv .1) (inv .3 es listed)
+          (listed .sound k inside) (later-ones listed is) (λ q. listed .ahead k k (le-refl k) inside (sym q)),
     )
 
 same-length : tie.Need-same-length Inv-loop μ-loop
@@ -130,17 +148,13 @@ pass-back-spec =
     cast-s
     shared-slice-read-t
     cast-t
-    mul-later
-    slice-read-later
-    mul-later-2
-    slice-read-later-2
-    mul-later-3
-    shared-slice-read-later
-    cast-later
-    add-later
-    later-requires
-    mul-row
-    slice-write-row
+    mul-end
+    slice-read-end
+    mul-end-2
+    shared-slice-read-end
+    cast-end
+    add-end
+    lift-requires
     loop-less
     loop-again
     same-length

@@ -91,12 +91,33 @@ pub fn measure(manner: &Manner, mut proved: impl FnMut(), mut baseline: impl FnM
     let least = Duration::from_micros(manner.least_micros);
     let (one, other) = (batch(least, &mut proved), batch(least, &mut baseline));
     let mut samples = [Vec::new(), Vec::new()];
-    for _ in 0..manner.samples {
-        samples[0].push(sample(one, &mut proved));
-        samples[1].push(sample(other, &mut baseline));
+    for at in 0..manner.samples {
+        let mut both = || {
+            samples[0].push(sample(one, &mut proved));
+            samples[1].push(sample(other, &mut baseline));
+        };
+        deeper(at % DEPTHS, &mut both);
     }
     let [proved, baseline] = samples.map(median);
     Pair { proved, baseline }
+}
+
+/// So many depths of the stack, which part a page of memory evenly.
+const DEPTHS: usize = 16;
+
+/// Runs so many steps deeper in the stack. Where the lists of a call lie within a page moves its time, by a tenth at times, and would be
+/// another place in each run of the program.
+#[inline(never)]
+fn deeper(steps: usize, run: &mut dyn FnMut()) {
+    let mut step = [0_u8; 4096 / DEPTHS];
+    // SAFETY: the pointer is to a byte of this array. Writing it so keeps the array on the stack.
+    unsafe { std::ptr::write_volatile(&mut step[steps], 1) };
+    match steps {
+        0 => run(),
+        _ => deeper(steps - 1, run),
+    }
+    // SAFETY: the same. Reading it so keeps the array until here.
+    unsafe { std::ptr::read_volatile(&step[steps]) };
 }
 
 /// How many calls take so long.
