@@ -1,5 +1,5 @@
 -- The most edges that a pair into a task may subsume, edge by edge: an edge that the pair subsumes has a sink to which the task leads within its delay.
-use mathlib.Core.Path.{_≡_, refl, sym, ap, _∙_}
+use mathlib.Core.Path.{_≡_, ap, _∙_}
 use mathlib.Core.Logic.{_⊎_, inl, inr}
 use mathlib.Core.Bool.{Bool}
 use mathlib.Core.List.{List}
@@ -7,11 +7,11 @@ use Prim.Native.Nat.{ℕ, _+_, _*_, _≤_, _<_, zero-le}
 use native.Mathlib.Nat.{zero-add}
 use native.Mathlib.Omega.{arith}
 use lib.Dec.{leb}
-use lib.ListN.{length, replicate, length-replicate, getD-replicate}
+use lib.ListN.{replicate, length-replicate, getD-replicate}
 use borrow.Author.Tests.{le-leb, lt-leb}
 use Rattle.model.specs.Lists.{counted, keep, tabulate}
 use Rattle.model.proofs.Basics.{order}
-use Rattle.records.specs.Columns.{at, heldEdge}
+use Rattle.records.specs.Columns.{at}
 use Rattle.delays.specs.Delays.{edge}
 use Rattle.counts.specs.Counts.{subsumesBy, MostBySink, BelowRow, RowShifted}
 use Rattle.counts.proofs.Shifts.{counted-few}

@@ -1,4 +1,4 @@
 -- The proofs that other crates may cite.
 pub mod FirstReady
 mod Starting
-mod Pairless
+pub mod Pairless

@@ -1,6 +1,7 @@
 -- Where no pair without a path back leads to a task into which pairs may subsume two edges, nothing has to be counted: the counts as they would be say that no
 -- such pair subsumes two.
-use mathlib.Core.Path.{_≡_, _∙_, subst}
+use mathlib.Core.Path.{_≡_, refl, sym, _∙_, subst}
+use mathlib.Core.Bool.{Bool, true, false, true≢false, not}
 use mathlib.Core.List.{List}
 use Prim.Native.Nat.{ℕ, _+_, _*_, _≤_, _<_}
 use native.Mathlib.Omega.{arith}
@@ -19,6 +20,11 @@ use Rattle.candidates.specs.Candidates.{countTable}
 use Rattle.prepared.specs.Ready.{Ready, NoPair}
 use Rattle.prepared.proofs.FirstReady.{first-ready}
 use Rattle.prepared.proofs.Starting.{counts-held}
+
+-- a test that is refused fails
+pub refused : (b : Bool) → not b ≡ true → b ≡ false
+refused true q = absurd (true≢false (sym q))
+refused false q = refl
 
 module _ (tasks : ℕ) (from to : List ℕ) (es : List Edge) where
   abbrev gainOf : ℕ → ℕ → ℕ

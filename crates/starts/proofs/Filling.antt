@@ -3,11 +3,11 @@
 use mathlib.Core.Path.{_≡_, refl, sym, ap, _∙_, subst}
 use mathlib.Core.List.{List, _++_}
 use Prim.Native.Nat.{ℕ, suc, _+_, _-_, _*_, _≤_, _<_}
-use native.Mathlib.Nat.{le-refl, sub-zero, zero-mul, suc-mul, mul-comm, mul-le-mul}
+use native.Mathlib.Nat.{le-refl, zero-mul, suc-mul, mul-comm, mul-le-mul}
 use native.Mathlib.Omega.{arith}
-use lib.ListN.{length, getD, take, drop, getD-replicate, List·getD-append}
-use lib.Seq.{length-take-le, getD-take, getD-drop, ext-getD, take-at, drop-at}
-use borrow.Rule.Slice.PartMut.{midOf, postOf, putMid, post-is, mid-len, same-len-mid, take-put, drop-put}
+use lib.ListN.{length, getD, drop, getD-replicate, List·getD-append}
+use lib.Seq.{getD-take, getD-drop, ext-getD, drop-at}
+use borrow.Rule.Slice.PartMut.{midOf, postOf, putMid, mid-len, same-len-mid, drop-put}
 use Rattle.model.specs.Lists.{tabulate}
 use Rattle.model.specs.Tasks.{Edge, Ends}
 use Rattle.model.specs.Runs.{ends, estimates}

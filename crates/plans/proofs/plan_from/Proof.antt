@@ -1,20 +1,17 @@
 -- `plans::plan_from` meets its contract: the steps start from the first stage, its delays, counts and times, and lead to the plan; where no pair may subsume
 -- two edges there is none.
-use mathlib.Core.Path.{_≡_, refl, sym, _∙_}
+use mathlib.Core.Path.{_≡_, refl, _∙_}
 use mathlib.Core.Bool.{Bool, true, false, true≢false, not}
 use native.Mathlib.Omega.{arith}
 use lib.ListN.{replicate}
+use Rattle.prepared.proofs.Pairless.{refused}
 use Rattle.present.proofs.Ordering.{timed-sizes}
 use Rattle.plans.proofs.Beginning.{as-many, few, graph-few, many-within, lent-lists, lent-is, row-lent, row-kept, begun, none-followed}
 use borrow.Author.Needs.{needs}
 use Rattle.plans.proofs.plan_from.Statement.{statement}
 use Rattle.plans.proofs.plan_from.Tie as tie
 
--- a test that is refused fails, and one that is not passes
-refused : (b : Bool) → not b ≡ true → b ≡ false
-refused true q = absurd (true≢false (sym q))
-refused false q = refl
-
+-- a test that is not refused passes
 passed : (b : Bool) → not b ≡ false → b ≡ true
 passed true q = refl
 passed false q = absurd (true≢false q)

@@ -1,21 +1,16 @@
 -- `prepared::start` meets its contract: the graph's table with 0 on its diagonal is spread by rows and by columns, and the edges of the first stage are counted
 -- by the delays so made, unless no pair without a path back leads to a task into which pairs may subsume two of them.
-use mathlib.Core.Path.{_≡_, refl, sym}
-use mathlib.Core.Bool.{Bool, true, false, true≢false, not}
+use mathlib.Core.Path.{refl, sym}
+use mathlib.Core.Bool.{true≢false}
 use native.Mathlib.Omega.{arith}
 use Prim.Native.Nat.{ℕ, _-_, _*_}
 use borrow.Author.Needs.{needs}
 use borrow.Rule.Slice.PartMut.{same-len-mid}
 use Rattle.prepared.proofs.FirstReady.{first-ready}
-use Rattle.prepared.proofs.Pairless.{no-pair, counted-few}
+use Rattle.prepared.proofs.Pairless.{refused, no-pair, counted-few}
 use Rattle.prepared.proofs.Starting.{blank-small, few-tasks, square-small, square-within, front-size, zeroed-within, counted-front, row-place, column-place, stage-few, stage-ends, stage-sinks, counts-held}
 use Rattle.prepared.proofs.start.Statement.{statement}
 use Rattle.prepared.proofs.start.Tie as tie
-
--- a test that is refused fails
-refused : (b : Bool) → not b ≡ true → b ≡ false
-refused true q = absurd (true≢false (sym q))
-refused false q = refl
 
 mul-size : tie.Need-mul-size
 mul-size c =

@@ -5,7 +5,7 @@ use native.Mathlib.Omega.{arith}
 use lib.ListN.{length}
 use borrow.Author.Needs.{needs}
 use Rattle.files.specs.Marks.{Placed}
-use Rattle.files.proofs.Marks.{place-inside, placed-none, placed-more}
+use Rattle.files.proofs.Marks.{placed-none, placed-more}
 use Rattle.files.proofs.checks.places_into.Statement.{statement}
 use Rattle.files.proofs.checks.places_into.Tie as tie
 
