@@ -86,7 +86,7 @@ add-end c =
     omega (arith, sum-fits (i .before .loop .k) (inv .2) (i .loop-test .taken) (ends i .2) (ends i .3))
 
 lift-requires : tie.Need-lift-requires Inv-loop μ-loop
-lift-requires c κs = ends (c .before .before .before .before .before) .3
+lift-requires c κs = omega (arith, ends (c .before .before .before .before .before))
 
 add-k : tie.Need-add-k Inv-loop μ-loop
 add-k c = omega (arith, c .before .before .before .before .before .before .before .before .loop-test .taken, c .before .before .before .before .before .before .before .before .before .before .before .before .before .before .pre .0)

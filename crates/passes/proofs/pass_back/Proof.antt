@@ -96,7 +96,7 @@ add-end c =
     omega (arith, sum-fits (place i) (inv .2) (listed-place i) (ends i .2) (ends i .3))
 
 lift-requires : tie.Need-lift-requires Inv-loop μ-loop
-lift-requires c κs = ends (c .before .before .before .before .before) .3
+lift-requires c κs = omega (arith, ends (c .before .before .before .before .before))
 
 loop-less : tie.Need-loop-less Inv-loop μ-loop
 loop-less c = omega (arith, c .before .before .before .before .before .before .before .before .loop-test .taken)
