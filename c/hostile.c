@@ -9,7 +9,8 @@
  *     their exact size, which valgrind watches. The pages that files are lent in are read-only.
  *   - A refused call leaves the list as it was; a successful one writes its part whole and nothing past it.
  *   - Both answers are the same, and are what the numbers, places and the sequence of refusals allow.
- * Prints the calls made and the refusals by number; each of 1 to 17 must come 100 times. */
+ * A file or a list of no elements is lent at null, too. Prints the calls made and the refusals by number; each of 1 to 17 must come 100
+ * times, and so must null for a graph, a proposal and a list. */
 #define _GNU_SOURCE
 #include "files.h"
 
@@ -27,6 +28,7 @@ static const char *const call_names[CALLS] = {"figures", "least_delays", "redund
 static const size_t element_sizes[CALLS] = {0, sizeof(uint16_t), 0, sizeof(uint32_t), 0, sizeof(resync_edge)};
 
 static unsigned long damaged_graphs, damaged_proposals, calls_made[CALLS], reached[NUMBERS];
+static unsigned long null_graphs, null_proposals, null_lists;
 static unsigned long trial_number;
 static enum call present_call;
 
@@ -113,7 +115,8 @@ typedef struct {
     int on_heap;
 } loan;
 
-/* Lends a copy of the bytes against the guard page behind or in front, between canaries, or in a heap block of their size. */
+/* Lends a copy of the bytes against the guard page behind or in front, between canaries, or in a heap block of their size; or at null,
+ * if there are none. */
 static loan lend(const region *r, const uint8_t *bytes, size_t size)
 {
     loan l;
@@ -121,6 +124,10 @@ static loan lend(const region *r, const uint8_t *bytes, size_t size)
     l.size = size;
     l.before = l.after = 0;
     l.on_heap = 0;
+    if (size == 0 && one_in(2)) {
+        l.own = l.lent = NULL;
+        return l;
+    }
     switch (below(4)) {
     case 0:
         offset = REGION - size;
@@ -159,6 +166,9 @@ static int all_canary(const uint8_t *bytes, size_t size)
 /* Takes a loan back, what it holds now into `bytes`. */
 static void take_back(loan *l, uint8_t *bytes)
 {
+    if (l->own == NULL) {
+        return;
+    }
     require(all_canary(l->own - l->before, l->before), "wrote before what it was lent");
     require(all_canary(l->own + l->size, l->after), "wrote behind what it was lent");
     memcpy(bytes, l->own, l->size);
@@ -268,6 +278,9 @@ static answer make_once(enum call call, const trial *t, int time)
     loan proposal = lend(&proposal_region, t->proposal.bytes, t->proposal.len);
     loan list = lend(&list_region, list_before[time], t->list_len[call] * element_sizes[call]);
     answer a = make(call, t, graph.lent, proposal.lent, list.lent);
+    null_graphs += graph.lent == NULL;
+    null_proposals += call == VERDICT && proposal.lent == NULL;
+    null_lists += element_sizes[call] > 0 && list.lent == NULL;
     unchanged(&graph, &t->graph);
     unchanged(&proposal, &t->proposal);
     take_back(&list, list_after[time]);
@@ -836,20 +849,21 @@ static void run_undamaged(uint32_t tasks_most)
     }
 }
 
-/* Prints the counts; whether each refusal came often enough. */
+/* Prints the counts; whether each refusal, and null, came often enough. */
 static int report(void)
 {
-    int enough = 1;
+    int enough = null_graphs >= REACHED_LEAST && null_proposals >= REACHED_LEAST && null_lists >= REACHED_LEAST;
     printf("damaged graphs: %lu, proposals: %lu\ncalls:", damaged_graphs, damaged_proposals);
     for (int call = 0; call < CALLS; call++) {
         printf(" resync_%s %lu", call_names[call], calls_made[call]);
     }
+    printf("\nlent at null: graphs %lu, proposals %lu, lists %lu", null_graphs, null_proposals, null_lists);
     printf("\nnot refused: %lu\nrefusals by number:", reached[0]);
     for (int number = 1; number < NUMBERS; number++) {
         printf(" %d: %lu", number, reached[number]);
         enough = enough && reached[number] >= REACHED_LEAST;
     }
-    puts(enough ? "\nhostile run passed" : "\na refusal came too seldom");
+    puts(enough ? "\nhostile run passed" : "\na refusal or null came too seldom");
     return enough;
 }
 

@@ -1,7 +1,10 @@
-/* The example desk of document 01 and its cases, each refusal number, and the limits, through include/resync.h and the archive.
- * Prints "N checks passed", or the first check that fails. */
+/* The example desk of document 01 and its cases, each refusal number, and the limits, of the stack too, through include/resync.h and the
+ * archive. Prints "N checks passed", or the first check that fails. */
+#define _POSIX_C_SOURCE 200809L
 #include "files.h"
 
+#include <limits.h>
+#include <pthread.h>
 #include <stdio.h>
 #include <stdlib.h>
 #include <string.h>
@@ -567,6 +570,82 @@ static void calling_program(void)
     refused_plan(__LINE__, &late, 0, 12, 0);
 }
 
+/* Null for each file and list of no elements. */
+static void null_pointers(void)
+{
+    graph none = graph_of(0, 1, 2);
+    file g = desk_file(12), p = example_proposal(), no_edges;
+    resync_plan_answer a;
+    CHECK(is_refusal(resync_figures(NULL, 0).refusal, 1, 0, 0, 0));
+    CHECK(is_refusal(resync_redundant(NULL, 0).refusal, 1, 0, 0, 0));
+    CHECK(is_refusal(resync_least_delays(NULL, 0, table, LIST), 1, 0, 0, 0));
+    CHECK(is_refusal(resync_least_delays(NULL, 0, NULL, 0), 1, 0, 0, 0));
+    CHECK(is_refusal(resync_least_delays(g.bytes, g.len, NULL, 0), 16, 0, 0, 0));
+    CHECK(is_refusal(resync_timetable(NULL, 0, 1, starts, LIST), 1, 0, 0, 0));
+    CHECK(is_refusal(resync_timetable(NULL, 0, 1, NULL, 0), 1, 0, 0, 0));
+    CHECK(is_refusal(resync_timetable(NULL, 0, 0, NULL, 0), 17, 0, 0, 0));
+    CHECK(is_refusal(resync_timetable(g.bytes, g.len, 1, NULL, 0), 16, 0, 0, 0));
+    CHECK(is_refusal(resync_verdict(NULL, 0, p.bytes, p.len).refusal, 1, 0, 0, 0));
+    CHECK(is_refusal(resync_verdict(NULL, 0, NULL, 0).refusal, 1, 0, 0, 0));
+    CHECK(is_refusal(resync_verdict(g.bytes, g.len, NULL, 0).refusal, 1, 0, 0, 0));
+    CHECK(is_refusal(resync_plan(NULL, 0, plan, RECORDS).refusal, 1, 0, 0, 0));
+    CHECK(is_refusal(resync_plan(NULL, 0, NULL, 0).refusal, 1, 0, 0, 0));
+    CHECK(is_refusal(resync_plan(g.bytes, g.len, NULL, 0).refusal, 16, 0, 0, 0));
+
+    add_task(&none, 0, 1);
+    add_task(&none, 0, 1);
+    no_edges = graph_file(&none);
+    a = resync_plan(no_edges.bytes, no_edges.len, NULL, 0);
+    CHECK(no_refusal(a.refusal) && a.length == 0 && a.steps == 0 && a.latency == 2);
+}
+
+/* Eight pairs of processors, each with four waits that one can stand for: a plan of eight steps. */
+static graph graph_of_steps(void)
+{
+    graph g = graph_of(0, 7, BOUND_MOST);
+    for (uint8_t i = 0; i < 64; i++) {
+        add_task(&g, i / 4, 1);
+    }
+    for (uint8_t i = 0; i < 64; i++) {
+        if (i / 4 % 2 == 0) {
+            add_edge(&g, i, (uint8_t)(i + 4), 0);
+        }
+    }
+    return g;
+}
+
+/* Every call on a graph; the verdict on its own edges and on none, which loses an order. */
+static void *make_every_call(void *graph_own_none)
+{
+    const file *f = (const file *)graph_own_none;
+    CHECK(no_refusal(figures_of(f).refusal));
+    CHECK(no_refusal(delays_of(f, LIST)));
+    CHECK(no_refusal(redundant_of(f).refusal));
+    CHECK(no_refusal(timetable_of(f, 64, LIST)));
+    CHECK(no_refusal(verdict_of(f, f + 1).refusal));
+    CHECK(verdict_of(f, f + 2).refusal.number == 14);
+    CHECK(plan_of(f, RECORDS).steps == 8);
+    return NULL;
+}
+
+/* On a thread that has as much stack as the header says, beside the least that any thread must have: a call that takes far more faults. */
+static void small_stack(void)
+{
+    static file files[3];
+    graph g = graph_of_steps();
+    proposal own = as_proposal(&g), none = proposal_of_none();
+    pthread_attr_t attributes;
+    pthread_t thread;
+    files[0] = graph_file(&g);
+    files[1] = proposal_file(&own);
+    files[2] = proposal_file(&none);
+    CHECK(pthread_attr_init(&attributes) == 0);
+    CHECK(pthread_attr_setstacksize(&attributes, RESYNC_STACK_BYTES + (size_t)PTHREAD_STACK_MIN) == 0);
+    CHECK(pthread_create(&thread, &attributes, make_every_call, files) == 0);
+    CHECK(pthread_join(thread, NULL) == 0);
+    CHECK(pthread_attr_destroy(&attributes) == 0);
+}
+
 int main(void)
 {
     example_files();
@@ -582,6 +661,8 @@ int main(void)
     tasks_and_edges();
     schedules();
     calling_program();
+    null_pointers();
+    small_stack();
     printf("%u checks passed\n", checks);
     return 0;
 }

@@ -37,12 +37,13 @@
  * So a graph that resync_figures accepts is refused by no other call for its own sake, and 1 to 8 are then the proposal's.
  *
  * What the caller must see to, since no call can check it:
- *   - A pointer is not null, even where the length is 0, is aligned for its elements, and is valid for as many as the length says.
+ *   - A pointer is aligned for its elements and valid for as many as the length says. Where the length is 0 it may be null.
  *   - A list that is written overlaps nothing else that the call is lent, nobody else uses it during the call, and nobody writes
  *     the files during it.
  *   - Lengths count elements, not bytes.
+ *   - RESYNC_STACK_BYTES of stack are free.
  * Nothing else is asked. The calls keep no pointer and no state, allocate nothing and write nothing but the lent list, so they may
- * run on several threads at once. A call takes less than 40 KiB of stack (docs/PERFORMANCE.md). */
+ * run on several threads at once. */
 #ifndef RESYNC_H
 #define RESYNC_H
 
@@ -52,6 +53,10 @@
 #ifdef __cplusplus
 extern "C" {
 #endif
+
+/* No call takes more bytes of stack. This is measured, not proved: a test holds the library as it is compiled to it, on the desks of
+ * docs/PERFORMANCE.md. Beside it stands what a lazy dynamic linker takes to find memcpy and memset when they are first called. */
+#define RESYNC_STACK_BYTES 51200
 
 /* A refusal, as the table above has it. Number 0: not refused, and the other fields are 0 too. */
 typedef struct {

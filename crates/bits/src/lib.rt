@@ -4,7 +4,7 @@ mod reader;
 pub use reader::Reader;
 ghost use mathlib.Core.Path.{_≡_};
 ghost use Prim.Native.Nat.{_+_, _*_, _≤_, _<_, _^_};
-ghost use lib.ListN.{length, getD};
+ghost use lib.ListN.{getD};
 ghost use Rattle.bits.specs.Bits.{field};
 
 // A byte as a wider number, 0 past the end.
@@ -19,34 +19,11 @@ fn byte_at(bytes: &[u8], index: usize) -> u64
     }
 }
 
-// Four bytes that are all there as one number, the first the most significant: the field of 32 bits from the first byte's start.
-fn four_within(bytes: &[u8], index: usize) -> u64
-    requires { ⌜ index + 3 < length (now bytes) ⌝ }
-    ensures { λ r. ⌜ r ≡ field (now (bytes .entry)) (index * 8) 32 ⌝ }
-{
-    let one = bytes[index] as u64;
-    let two = (one << 8) | bytes[index + 1] as u64;
-    let three = (two << 8) | bytes[index + 2] as u64;
-    (three << 8) | bytes[index + 3] as u64
-}
-
-// Five bytes that are all there as one number, the first the most significant: two records of a file.
-pub fn five_within(bytes: &[u8], index: usize) -> u64
-    requires { ⌜ index + 4 < length (now bytes) ⌝ }
-    ensures { λ r. ⌜ r ≡ field (now (bytes .entry)) (index * 8) 40 ⌝ }
-{
-    let four = four_within(bytes, index);
-    (four << 8) | bytes[index + 4] as u64
-}
-
-// Four bytes as one number, of which any may stand past the end.
+// Four bytes as one number, the first the most significant: the field of 32 bits from the first byte's start.
 fn four_at(bytes: &[u8], index: usize) -> u64
     requires { ⌜ index + 3 < 2 ^ 64 ⌝ }
     ensures { λ r. ⌜ r ≡ field (now (bytes .entry)) (index * 8) 32 ⌝ }
 {
-    if index + 3 < bytes.len() {
-        return four_within(bytes, index);
-    }
     let one = byte_at(bytes, index);
     let two = (one << 8) | byte_at(bytes, index + 1);
     let three = (two << 8) | byte_at(bytes, index + 2);
@@ -54,7 +31,7 @@ fn four_at(bytes: &[u8], index: usize) -> u64
 }
 
 // The field of `width` bits from a bit position, by shifts and masks, across byte ends. Bits past the end count 0.
-pub fn field_at(bytes: &[u8], position: usize, width: usize) -> u32
+fn field_at(bytes: &[u8], position: usize, width: usize) -> u32
     requires { ⌜ width ≤ 25 ⌝ }
     ensures { λ r. ⌜ r ≡ field (now (bytes .entry)) position width ⌝ }
 {

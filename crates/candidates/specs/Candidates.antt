@@ -15,10 +15,6 @@ use Rattle.delays.specs.Delays.{entry}
 unfoldable pub countTable : ℕ → List Edge → List ℕ
 countTable n es = rows n (λ a. tabulate n (λ b. entry (counting n es a b)))
 
--- the entry of tasks a and b
-unfoldable pub tableAt : ℕ → List ℕ → ℕ → ℕ → ℕ
-tableAt n table a b = at table (a * n + b)
-
 -- what the pair (a, b) is worth by the counts of all pairs: nothing if a path leads back, or if a ends after the time at which b has to start
 unfoldable pub worthIn : List ℕ → List ℕ → List ℕ → List ℕ → ℕ → ℕ → ℕ
 worthIn counts to end latest a b =

@@ -6,10 +6,11 @@ ghost use mathlib.Core.List.{List};
 ghost use Prim.Native.Nat.{ℕ, _+_, _*_, _≤_, _<_, min};
 ghost use lib.ListN.{length};
 ghost use Rattle.model.specs.Tasks.{Edge};
-ghost use Rattle.records.specs.Columns.{at};
 ghost use Rattle.delays.specs.Delays.{delayTable};
 ghost use Rattle.candidates.specs.Candidates.{countTable, worthIn, BestPair};
 ghost use Rattle.candidates.specs.Searches.{worthCounted, BestBefore, unitsOf, SmallRow, UnitRow, RowFew};
+use delays::FAR;
+use delays::WIDTH;
 
 // A pair of tasks and how many edges it subsumes; below 2 if there is no pair to take.
 pub struct Pair {
@@ -18,14 +19,8 @@ pub struct Pair {
     pub sink: u32,
 }
 
-// No path.
-const NONE: u16 = 16383;
-
 // Where numbers are cut: the largest that fits a signed test.
 const LAST: u16 = 32767;
-
-// Places of a row, for as many tasks as there can be.
-const WIDTH: usize = 64;
 
 // Sets the entry from each task to itself to 0.
 pub fn zero_diagonal(table: &mut [u16], tasks: usize)
@@ -76,7 +71,7 @@ fn exceeds(count: u16, least: u16, back: u16, end: u16, latest: u16) -> u16
     ensures few { λ r. ⌜ r ≤ 1 ⌝ }
     ensures none { λ r. ⌜ (r ≡ 0 → back ≡ 16383 → end ≤ latest → count ≤ least) ⌝ }
 {
-    if back == NONE {
+    if back == FAR {
         if (end as i16) <= (latest as i16) {
             if least < count {
                 return 1;
@@ -128,40 +123,6 @@ fn may_exceed<'a>(
     exceeding(counts, to, start, least, units(end, 8), coarse) != 0
 }
 
-// Whether a pair without a path back may subsume two edges, whatever the times.
-pub fn has_pair<'a>(counts: &'a [u16], to: &'a [u16], tasks: usize) -> bool
-    requires { ⌜ (tasks ≤ 64) × (tasks * 64 ≤ length (now counts)) × (tasks * 64 ≤ length (now to)) ⌝ }
-    ensures { λ r. ⌜ (r ≡ false → (a b : ℕ) → a < tasks → b < 64 → at (now (to .entry)) (a * 64 + b) ≡ 16383 → at (now (counts .entry)) (a * 64 + b) < 2) ⌝ }
-{
-    let any: [u16; 64] = [0; 64];
-    let mut a = 0;
-    while a < tasks {
-        if exceeding(counts, to, a * WIDTH, 1, 0, &any) != 0 {
-            return true;
-        }
-        a += 1;
-    }
-    false
-}
-
-// Whether a pair without a path back leads to a task whose number is two or more: `most` has a number for each task.
-pub fn has_sink<'a>(most: &'a [u16], to: &'a [u16], tasks: usize) -> bool
-    requires { ⌜ (tasks ≤ 64) × (length (now most) ≡ 64) × (tasks * 64 ≤ length (now to)) ⌝ }
-    ensures { λ r. ⌜ (r ≡ false → (a b : ℕ) → a < tasks → b < 64 → at (now (to .entry)) (a * 64 + b) ≡ 16383 → at (now (most .entry)) b < 2) ⌝ }
-{
-    let any: [u16; 64] = [0; 64];
-    let mut a = 0;
-    while a < tasks {
-        let start = a * WIDTH;
-        let end = start + WIDTH;
-        if exceeding(most, &to[start..end], 0, 1, 0, &any) != 0 {
-            return true;
-        }
-        a += 1;
-    }
-    false
-}
-
 // The best of the pairs out of task `a`, by the counts for their sinks, if it is better than the best before; `back` has the
 // delays back to `a`.
 fn best_counted<'a>(
@@ -180,7 +141,7 @@ fn best_counted<'a>(
     while b < back.len() {
         let gain = counts[b] as u32;
         if best.gain < gain {
-            if back[b] == NONE {
+            if back[b] == FAR {
                 if end <= latest[b] {
                     best = Pair {
                         gain,

@@ -1,8 +1,8 @@
 -- The counts of a stage's edges, edge by edge: each share is that of one edge more, and a delay that did not fall to an edge's own changes no share of it.
 use mathlib.Core.Path.{_≡_, refl, sym, ap, _∙_, subst}
-use mathlib.Core.Logic.{_⊎_, inl, inr, ⊎-elim}
-use mathlib.Core.Bool.{Bool, true, false, not}
-use mathlib.Core.List.{List, [], _∷_, _++_}
+use mathlib.Core.Logic.{_⊎_, inl, inr}
+use mathlib.Core.Bool.{Bool, true, false}
+use mathlib.Core.List.{List, [], _∷_, _++_, List·Memᴰ·head as here, List·Memᴰ·tail as there}
 use Prim.Native.Nat.{ℕ, zero, suc, _+_, _-_, _*_, _≤_, _<_}
 use native.Mathlib.Nat.{le-refl, zero-add, suc-add}
 use native.Mathlib.Numerals.{add-one}
@@ -11,15 +11,14 @@ use lib.Dec.{leb}
 use lib.ListN.{length}
 use borrow.Author.Tests.{le-leb, lt-leb}
 use Rattle.model.specs.Lists.{put, keep, counted, tabulate}
-use Rattle.model.specs.Tasks.{Edge}
-use Rattle.model.specs.Plan.{pairEdge, withPair}
+use Rattle.model.specs.Tasks.{Edge, _∈_}
 use Rattle.model.proofs.Basics.{order}
 use Rattle.model.proofs.Plans.{length-keep}
-use Rattle.records.specs.Columns.{at, heldEdge, edgesOf}
+use Rattle.records.specs.Columns.{at, heldEdge}
 use Rattle.records.proofs.Fill.{length-tabulate}
 use Rattle.delays.specs.Delays.{edge}
-use Rattle.counts.specs.Counts.{subsumesBy, share, CountsOf, RowsFell, SameTests, Covered, EdgeShifted}
-use Rattle.counts.proofs.Shifts.{counted-few, share-left}
+use Rattle.counts.specs.Counts.{subsumesBy, rowAt, share, CountsOf, SameTests, Covered, EdgeShifted}
+use Rattle.counts.proofs.Shifts.{counted-few}
 
 -- ── One element more ──
 
@@ -57,93 +56,108 @@ twice-more t u xs x = ap (λ (ys : List Edge). length (keep t ys)) (keep-append 
     go true = kept-more t (keep u xs) x
     go false = ap (λ (ys : List Edge). length (keep t ys)) (nil (keep u xs)) ∙ omega arith
 
+-- lists of what passes tests that agree on all elements
+pub keep-equal : (t s : Edge → Bool) (xs : List Edge) → ((e : Edge) → e ∈ xs → t e ≡ s e) → keep t xs ≡ keep s xs
+unfolding keep
+keep-equal t s [] same = refl
+keep-equal t s (x ∷ xs) same = λ i. put (same x (here refl) i) x (keep-equal t s xs (λ e m. same e (there m)) i)
+
 -- ── Shares ──
 
--- an edge's share by its limit is whether the pair subsumes it
-pub share-is : (from to : List ℕ) (s t d a b : ℕ) → share from to s t (d + 1) a b ≡ counted (subsumesBy from to a b (edge s t d)) 1
-unfolding share subsumesBy
-share-is from to s t d a b = ap (λ (x : Bool). counted x 1) (go (order sum d))
+-- one above, as tests
+more-test : (sum d : ℕ) → leb (sum + 1) (d + 1) ≡ leb sum d
+more-test sum d = go (order sum d)
   where
-    sum : ℕ
-    sum = at from (s * 64 + a) + at to (t * 64 + b)
-
     go : (sum ≤ d) ⊎ (d < sum) → leb (sum + 1) (d + 1) ≡ leb sum d
     go (inl l) = le-leb (sum + 1) (d + 1) (omega arith) ∙ sym (le-leb sum d l)
     go (inr l) = lt-leb (sum + 1) (d + 1) (omega arith) ∙ sym (lt-leb sum d l)
 
-pub share-zero : (from to : List ℕ) (s t a b : ℕ) → share from to s t 0 a b ≡ 0
-unfolding share counted
-share-zero from to s t a b = ap (λ (x : Bool). counted x 1) (lt-leb (at from (s * 64 + a) + at to (t * 64 + b) + 1) 0 (omega arith))
+-- an edge's share by its limit is whether the pair subsumes it
+share-is : (from to : List ℕ) (s t d a b : ℕ) → share (rowAt from s a) (rowAt to t b) (d + 1) ≡ counted (subsumesBy from to a b (edge s t d)) 1
+unfolding share subsumesBy
+share-is from to s t d a b = ap (λ (x : Bool). counted x 1) (more-test (rowAt from s a + rowAt to t b) d)
 
-share-one : (from to : List ℕ) (s t limit a b : ℕ) → share from to s t limit a b ≤ 1
-unfolding share
-share-one from to s t limit a b = counted-few (leb (at from (s * 64 + a) + at to (t * 64 + b) + 1) limit) 1
+-- there is none where the delays reach the limit
+share-none : (x y limit : ℕ) → limit ≤ x + y → share x y limit ≡ 0
+unfolding share counted
+share-none x y limit reached = ap (λ (z : Bool). counted z 1) (lt-leb (x + y + 1) limit (omega arith))
+
+share-zero : (x y : ℕ) → share x y 0 ≡ 0
+share-zero x y = share-none x y 0 (omega arith)
 
 -- the share of an edge that stays if a test says so
 share-if : (from to : List ℕ) (s t d a b : ℕ) (stays : Bool)
-    → share from to s t (counted stays (d + 1)) a b ≡ counted stays (counted (subsumesBy from to a b (edge s t d)) 1)
+    → share (rowAt from s a) (rowAt to t b) (counted stays (d + 1)) ≡ counted stays (counted (subsumesBy from to a b (edge s t d)) 1)
 unfolding counted
 share-if from to s t d a b true = share-is from to s t d a b
-share-if from to s t d a b false = share-zero from to s t a b
+share-if from to s t d a b false = share-zero (rowAt from s a) (rowAt to t b)
 
 -- ── Delays that did not fall to an edge's own ──
 
-module _ {tasks : ℕ} {from to from′ to′ fell-from fell-to : List ℕ} (lower-from : RowsFell tasks from from′ fell-from)
-    (lower-to : RowsFell tasks to to′ fell-to) where
-  -- by limits up to the least of its numbers that fell, a row passes the same tests as before
-  pub same-tests : (t : ℕ) → t < tasks → SameTests to to′ t (at fell-to t)
-  same-tests t inside b l below limit = go (lower-to .least t b inside below)
-    where
-      go : (at to′ (t * 64 + b) ≡ at to (t * 64 + b)) ⊎ (at fell-to t ≤ at to′ (t * 64 + b))
-          → leb (at to (t * 64 + b) + 1) l ≡ leb (at to′ (t * 64 + b) + 1) l
-      go (inl same) = ap (λ (x : ℕ). leb (x + 1) l) (sym same)
-      go (inr far) =
-          lt-leb (at to (t * 64 + b) + 1) l (omega (arith, lower-to .lower t b inside below)) ∙
-          sym (lt-leb (at to′ (t * 64 + b) + 1) l (omega arith))
+-- numbers only fell, and each that did is at least `least`
+abbrev pub FellTo : ℕ → (ℕ → ℕ) → (ℕ → ℕ) → Type 0
+FellTo least row row′ = (y : ℕ) → y < 64 → (row′ y ≤ row y) × ((row′ y ≡ row y) ⊎ (least ≤ row′ y))
 
-  same-share : (s t d a b : ℕ) → s < tasks → t < tasks → d < at fell-from s → d < at fell-to t → a < 64 → b < 64
-      → share from to s t (d + 1) a b ≡ share from′ to′ s t (d + 1) a b
-  same-share s t d a b source sink above-from above-to la lb =
-      sym (share-left from to s t (d + 1) a b refl) ∙ (go (lower-from .least s a source la) ∙ share-left from′ to′ s t (d + 1) a b refl)
-    where
-      go : (at from′ (s * 64 + a) ≡ at from (s * 64 + a)) ⊎ (at fell-from s ≤ at from′ (s * 64 + a))
-          → counted (leb (at to (t * 64 + b) + 1) (d + 1 - at from (s * 64 + a))) 1
-          ≡ counted (leb (at to′ (t * 64 + b) + 1) (d + 1 - at from′ (s * 64 + a))) 1
-      go (inl same) =
-          ap (λ (x : Bool). counted x 1) (same-tests t sink b (d + 1 - at from (s * 64 + a)) lb (omega arith)) ∙
-          ap (λ (x : ℕ). counted (leb (at to′ (t * 64 + b) + 1) (d + 1 - x)) 1) (sym same)
-      go (inr far) =
-          ap (λ (x : Bool). counted x 1)
-          (lt-leb (at to (t * 64 + b) + 1) (d + 1 - at from (s * 64 + a)) (omega (arith, lower-from .lower s a source la)) ∙
-          sym (lt-leb (at to′ (t * 64 + b) + 1) (d + 1 - at from′ (s * 64 + a)) (omega arith)))
+-- by limits up to the least of its numbers that fell, a row passes the same tests as before
+pub same-tests : {to to′ : ℕ → ℕ} {least : ℕ} → FellTo least to to′ → SameTests to to′ least
+same-tests {to} {to′} {least} fell b l below limit = go (fell b below .1)
+  where
+    go : (to′ b ≡ to b) ⊎ (least ≤ to′ b) → leb (to b + 1) l ≡ leb (to′ b + 1) l
+    go (inl same) = ap (λ (x : ℕ). leb (x + 1) l) (sym same)
+    go (inr far) = lt-leb (to b + 1) l (omega (arith, fell b below .0)) ∙ sym (lt-leb (to′ b + 1) l (omega arith))
 
-  pub edge-same : (s t d : ℕ) (counts : List ℕ) → tasks ≤ 64 → s < tasks → t < tasks → d < at fell-from s → d < at fell-to t
-      → EdgeShifted from to from′ to′ s t (d + 1) (d + 1) tasks counts counts
-  edge-same s t d counts few source sink above-from above-to = record {
+module _ {from to from′ to′ : ℕ → ℕ} (d : ℕ) (fell-from : FellTo (d + 1) from from′) (fell-to : FellTo (d + 1) to to′) where
+  same-share : (a b : ℕ) → a < 64 → b < 64 → share (from a) (to b) (d + 1) ≡ share (from′ a) (to′ b) (d + 1)
+  same-share a b la lb = go (fell-from a la .1) (fell-to b lb .1)
+    where
+      none : d + 1 ≤ from′ a + to′ b → share (from a) (to b) (d + 1) ≡ share (from′ a) (to′ b) (d + 1)
+      none reached =
+          share-none (from a) (to b) (d + 1) (omega (arith, fell-from a la .0, fell-to b lb .0)) ∙ sym (share-none (from′ a) (to′ b) (d + 1) reached)
+
+      go : (from′ a ≡ from a) ⊎ (d + 1 ≤ from′ a) → (to′ b ≡ to b) ⊎ (d + 1 ≤ to′ b) → share (from a) (to b) (d + 1) ≡ share (from′ a) (to′ b) (d + 1)
+      go (inl same) (inl same′) = λ i. share (sym same i) (sym same′ i) (d + 1)
+      go (inr far) any = none (omega arith)
+      go (inl same) (inr far) = none (omega arith)
+
+  -- nothing changes for an edge that stays
+  pub edge-still :
+      {limit tasks : ℕ} (counts : List ℕ) → tasks ≤ 64 → limit ≡ d + 1 → EdgeShifted from to from′ to′ (d + 1) limit tasks counts counts
+  edge-still counts few is = record {
     size = refl;
-    inside = λ a b l m. ap (λ (x : ℕ). at counts (a * 64 + b) + x) (same-share s t d a b source sink above-from above-to (omega arith) m);
+    inside = λ a b l m.
+        ap (λ (x : ℕ). at counts (a * 64 + b) + x) (same-share a b (omega (arith, few, l)) m ∙ ap (share (from′ a) (to′ b)) (sym is));
     outside = λ i l. refl;
   }
 
--- the next limit of an edge that is dropped, which leaves no share by any delays, and of one that stays
-module _ {from to from′ to′ : List ℕ} {s t limit tasks : ℕ} {counts after : List ℕ} where
-  pub edge-dropped : {gone : Bool} → gone ≡ true → EdgeShifted from to from to s t limit 0 tasks counts after
-      → EdgeShifted from to from′ to′ s t limit (counted (not gone) limit) tasks counts after
-  unfolding counted
-  edge-dropped is shifted =
-      subst (λ (b : Bool). EdgeShifted from to from′ to′ s t limit (counted (not b) limit) tasks counts after) (sym is)
-      (record {
-        size = shifted .size;
-        inside = λ a b l m. omega (arith, shifted .inside a b l m, share-zero from to s t a b, share-zero from′ to′ s t a b);
-        outside = shifted .outside;
-      })
-
-  pub edge-stays : {gone : Bool} → gone ≡ false → EdgeShifted from to from′ to′ s t limit limit tasks counts after
-      → EdgeShifted from to from′ to′ s t limit (counted (not gone) limit) tasks counts after
-  unfolding counted
-  edge-stays is shifted = subst (λ (b : Bool). EdgeShifted from to from′ to′ s t limit (counted (not b) limit) tasks counts after) (sym is) shifted
+-- a limit that is not 0 is that of an edge that stays
+pub limit-stays : (stays : Bool) {limit w : ℕ} → limit ≡ counted stays w → (limit ≡ 0 → ⊥) → limit ≡ w
+unfolding counted
+limit-stays true is some = is
+limit-stays false is some = absurd (some is)
 
 -- ── All edges ──
+
+module _ {tasks : ℕ} {from to : List ℕ} {es : List Edge} {counts : List ℕ} (held : CountsOf tasks from to es counts) where
+  -- an edge that is not counted yet may be
+  pub counts-covered : length es ≤ 256 → (s t : ℕ) → Covered (rowAt from s) (rowAt to t) 0 tasks counts
+  counts-covered few s t a b l m =
+      (omega (arith, share-zero (rowAt from s a) (rowAt to t b)), omega (arith, held .each a b l m, length-keep (subsumesBy from to a b) es))
+
+  pub counts-more :
+      {after : List ℕ} (s t d : ℕ) → EdgeShifted (rowAt from s) (rowAt to t) (rowAt from s) (rowAt to t) 0 (d + 1) tasks counts after
+      → CountsOf tasks from to (es ++ (edge s t d ∷ [])) after
+  counts-more s t d shifted = record {
+    size = omega (arith, shifted .size, held .size);
+    each = λ a b l m.
+        omega (
+          arith,
+          shifted .inside a b l m,
+          share-zero (rowAt from s a) (rowAt to t b),
+          share-is from to s t d a b,
+          held .each a b l m,
+          kept-more (subsumesBy from to a b) es (edge s t d),
+        );
+  }
 
 module _ (source sink delay : List ℕ) where
   abbrev first : ℕ → List Edge
@@ -162,33 +176,22 @@ module _ (source sink delay : List ℕ) where
   first-few : (u : Edge → Bool) (j : ℕ) → length (keep u (first j)) ≤ j
   first-few u j = omega (arith, length-keep u (first j), length-tabulate j (heldEdge source sink delay))
 
-  pub first-more : (u : Edge → Bool) (j : ℕ) → length (keep u (first (j + 1))) ≡ length (keep u (first j)) + counted (u (edge (s j) (t j) (d j))) 1
+  first-more : (u : Edge → Bool) (j : ℕ) → length (keep u (first (j + 1))) ≡ length (keep u (first j)) + counted (u (edge (s j) (t j) (d j))) 1
   unfolding tabulate heldEdge at
   first-more u j = ap (λ (k : ℕ). length (keep u (first k))) (add-one j) ∙ kept-more u (first j) (heldEdge source sink delay j)
 
   module _ (tasks : ℕ) (from to : List ℕ) where
-    pub counts-none : {counts : List ℕ} → tasks * 64 ≤ length counts → ((i : ℕ) → at counts i ≡ 0) → CountsOf tasks from to (first 0) counts
+    pub first-none : {counts : List ℕ} → tasks * 64 ≤ length counts → ((i : ℕ) → at counts i ≡ 0) → CountsOf tasks from to (first 0) counts
     unfolding tabulate keep
-    counts-none size zeros = record { size = size; each = λ a b l m. zeros (a * 64 + b) }
+    first-none size zeros = record { size = size; each = λ a b l m. zeros (a * 64 + b) }
 
-    pub counts-covered : (j : ℕ) {counts : List ℕ} → CountsOf tasks from to (first j) counts → j ≤ 256 → (p q : ℕ) → Covered from to p q 0 tasks counts
-    counts-covered j held few p q a b l m =
-        (omega (arith, share-zero from to p q a b), omega (arith, held .each a b l m, first-few (subsumesBy from to a b) j))
-
-    pub counts-more : (j : ℕ) {counts after : List ℕ} → CountsOf tasks from to (first j) counts
-        → EdgeShifted from to from to (s j) (t j) 0 (d j + 1) tasks counts after → CountsOf tasks from to (first (j + 1)) after
-    counts-more j held shifted = record {
-      size = omega (arith, shifted .size, held .size);
-      each = λ a b l m.
-          omega (
-            arith,
-            shifted .inside a b l m,
-            share-zero from to (s j) (t j) a b,
-            share-is from to (s j) (t j) (d j) a b,
-            held .each a b l m,
-            first-more (subsumesBy from to a b) j,
-          );
-    }
+    pub first-counted :
+        (j : ℕ) {counts after : List ℕ} → CountsOf tasks from to (first j) counts
+        → EdgeShifted (rowAt from (s j)) (rowAt to (t j)) (rowAt from (s j)) (rowAt to (t j)) 0 (d j + 1) tasks counts after
+        → CountsOf tasks from to (first (j + 1)) after
+    unfolding tabulate heldEdge at
+    first-counted j {counts} {after} held shifted =
+        subst (λ (k : ℕ). CountsOf tasks from to (first k) after) (sym (add-one j)) (counts-more held (s j) (t j) (d j) shifted)
 
   -- ── The counts of one stage, changed to those of the next ──
 
@@ -225,9 +228,9 @@ module _ (source sink delay : List ℕ) where
         let next : length (keep u (first (suc k + j))) ≡ length (keep u (first (suc (k + j)))) = ap (λ (m : ℕ). length (keep u (first m))) (suc-add k j) in
         omega (arith, later-most u j k, more, one, next)
 
-    module _ {j : ℕ} {counts : List ℕ} (held : Changed j counts) (few : n ≤ 256) where
-      pub changed-covered : j < n → Covered from to (s j) (t j) (d j + 1) tasks counts
-      changed-covered below a b l m = (enough, small)
+    module _ {j : ℕ} {counts : List ℕ} (held : Changed j counts) where
+      pub changed-covered : n ≤ 256 → j < n → Covered (rowAt from (s j)) (rowAt to (t j)) (d j + 1) tasks counts
+      changed-covered few below a b l m = (enough, small)
         where
           u : Edge → Bool
           u = subsumesBy from to a b
@@ -238,7 +241,7 @@ module _ (source sink delay : List ℕ) where
           on : n - j + j ≡ n
           on = omega arith
 
-          enough : share from to (s j) (t j) (d j + 1) a b ≤ at counts (a * 64 + b)
+          enough : share (rowAt from (s j) a) (rowAt to (t j) b) (d j + 1) ≤ at counts (a * 64 + b)
           enough =
               let all = subst (λ (k : ℕ). length (keep u (first (j + 1))) ≤ length (keep u (first k))) up (later-least u (j + 1) (n - (j + 1))) in
               omega (arith, share-is from to (s j) (t j) (d j) a b, first-more u j, all, held .each a b l m)
@@ -250,7 +253,8 @@ module _ (source sink delay : List ℕ) where
               omega (arith, held .each a b l m, all, kept, first-few stays j)
 
       pub changed-more : {after : List ℕ}
-          → EdgeShifted from to from′ to′ (s j) (t j) (d j + 1) (counted (stays (edge (s j) (t j) (d j))) (d j + 1)) tasks counts after
+          → EdgeShifted (rowAt from (s j)) (rowAt to (t j)) (rowAt from′ (s j)) (rowAt to′ (t j)) (d j + 1)
+          (counted (stays (edge (s j) (t j) (d j))) (d j + 1)) tasks counts after
           → Changed (j + 1) after
       unfolding tabulate heldEdge at
       changed-more {after} shifted = record { size = omega (arith, shifted .size, held .size); each = next }
@@ -277,28 +281,5 @@ module _ (source sink delay : List ℕ) where
                 twice a b,
               )
 
-    module _ {counts : List ℕ} (held : Changed n counts) (few : n ≤ 256) where
-      pub changed-all : CountsOf tasks from′ to′ (keep stays (first n)) counts
-      changed-all = record { size = held .size; each = λ a b l m. omega (arith, held .each a b l m) }
-
-      pub all-covered : (p q : ℕ) → Covered from′ to′ p q 0 tasks counts
-      all-covered p q a b l m = (
-        omega (arith, share-zero from′ to′ p q a b),
-        omega (arith, changed-all .each a b l m, length-keep (subsumesBy from′ to′ a b) (keep stays (first n)), first-few stays n),
-      )
-
-      pub pair-counted : {after : List ℕ} (p q : ℕ) → EdgeShifted from′ to′ from′ to′ p q 0 1 tasks counts after
-          → CountsOf tasks from′ to′ (withPair (keep stays (first n)) p q) after
-      unfolding withPair pairEdge
-      pair-counted p q shifted = record {
-        size = omega (arith, shifted .size, held .size);
-        each = λ a b l m.
-            omega (
-              arith,
-              shifted .inside a b l m,
-              changed-all .each a b l m,
-              share-zero from′ to′ p q a b,
-              share-is from′ to′ p q 0 a b,
-              kept-more (subsumesBy from′ to′ a b) (keep stays (first n)) (edge p q 0),
-            );
-      }
+    pub changed-all : {counts : List ℕ} → Changed n counts → CountsOf tasks from′ to′ (keep stays (first n)) counts
+    changed-all held = record { size = held .size; each = λ a b l m. omega (arith, held .each a b l m) }

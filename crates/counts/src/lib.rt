@@ -4,19 +4,21 @@
 // at most 16,383, so that a signed test may compare them. Most rows of counts change by the same tests of a row of delays: these are worked out once, as
 // a row of ones and zeros, and again only when the limit is another.
 ghost use mathlib.Core.Path.{_≡_};
-ghost use mathlib.Core.Bool.{not};
+ghost use mathlib.Core.Bool.{true, false, not};
+ghost use mathlib.Core.List.{List};
 ghost use Prim.Native.Nat.{ℕ, _+_, _-_, _*_, _≤_, _<_};
 ghost use lib.Dec.{leb};
-ghost use lib.ListN.{length, replicate};
+ghost use lib.ListN.{length};
 ghost use Rattle.model.specs.Lists.{counted, keep};
 ghost use Rattle.model.specs.Tasks.{Ends};
 ghost use Rattle.model.specs.Plan.{withPair};
 ghost use Rattle.records.specs.Columns.{at, edgesOf};
 ghost use Rattle.delays.specs.Delays.{edge};
-ghost use Rattle.counts.specs.Counts.{subsumesBy, SmallRows, Still, BelowRow, LeftRow, RowsMarked, RowsFell, RowShifted, EdgeShifted, Covered, SameTests, CountsOf, MostBySink};
-
-// Places of a row, for as many tasks as there can be.
-const WIDTH: usize = 64;
+ghost use Rattle.updates.specs.Updates.{Small, lowerAt, Lowers, RowsJoined};
+ghost use Rattle.counts.specs.Counts.{subsumesBy, rowAt, Still, LeftRow, BelowRow, RowShifted, EdgeShifted, Covered, SameTests, CountsOf};
+use delays::WIDTH;
+use updates::join_rows;
+use updates::lowered;
 
 // 1 if a number is below a limit, else 0: by a signed test, for which plain x86-64 has a vector instruction.
 fn below(x: u16, limit: u16) -> u16
@@ -39,17 +41,24 @@ fn left_of(limit: u16, delay: u16) -> u16
     0
 }
 
-// 1 if a row of counts has to be looked at, else 0: not if as much is left as before, and no more than the least of the other delays that fell.
-fn moves(old: u16, new: u16, fell: u16) -> u16
-    ensures { λ r. ⌜ (r ≡ 0 → Still fell old new) ⌝ }
+// Whether a row of counts has to be looked at: not if as much is left as before, and no more than the least of the other delays that fell.
+fn moves(old: u16, new: u16, fell: u16) -> bool
+    ensures { λ r. ⌜ (r ≡ false → Still fell old new) ⌝ }
 {
     if old != new {
-        return 1;
+        return true;
     }
-    if fell < new {
-        return 1;
+    fell < new
+}
+
+// Whether two numbers are above a third.
+fn both_above(most: u16, x: u16, y: u16) -> bool
+    ensures { λ r. ⌜ (r ≡ true → (most < x) × (most < y)) ⌝ }
+{
+    if x <= most {
+        return false;
     }
-    0
+    most < y
 }
 
 // Whether the pair (a, b) subsumes an edge.
@@ -70,27 +79,56 @@ pub fn is_subsumed<'a>(
     before + after <= delay as u32
 }
 
+// The limit of an edge when the pair (a, b) is added: 0 if the pair subsumes it.
+fn limit_after<'a>(
+    from: &'a [u16],
+    to: &'a [u16],
+    a: usize,
+    b: usize,
+    source: u8,
+    sink: u8,
+    delay: u8,
+) -> u16
+    requires { ⌜ (a < 64) × (b < 64) × (source * 64 + a < length (now from)) × (sink * 64 + b < length (now to)) ⌝ }
+    ensures { λ r. ⌜ r ≡ counted (not (subsumesBy (now (from .entry)) (now (to .entry)) a b (edge source sink delay))) (delay + 1) ⌝ }
+{
+    if is_subsumed(from, to, a, b, source, sink, delay) {
+        return 0;
+    }
+    delay as u16 + 1
+}
+
+// What each delay of a row leaves of a limit.
+fn left_row(delays: &[u16], limit: u16, left: &mut [u16])
+    requires { ⌜ (length (now delays) ≡ 64) × (length (now left) ≡ 64) ⌝ }
+    ensures { λ _. ⌜ LeftRow (now (delays .entry)) limit 64 (now (left .exit)) ⌝ }
+{
+    let mut a = 0;
+    while a < WIDTH {
+        left[a] = left_of(limit, delays[a]);
+        a += 1;
+    }
+}
+
 // Tests a row of delays: 1 for each that is below a limit, else 0.
-fn row_below(delays: &[u16], start: usize, limit: u16, row: &mut [u16])
-    requires { ⌜ (start + 64 ≤ length (now delays)) × (start ≤ 4096) × (limit ≤ 32767) × (length (now row) ≡ 64) ⌝ }
-    requires { ⌜ ((b : ℕ) → b < 64 → at (now delays) (start + b) ≤ 16383) ⌝ }
-    ensures { λ _. ⌜ BelowRow (now (delays .entry)) start limit 64 (now (row .exit)) ⌝ }
+fn row_below(delays: &[u16], limit: u16, row: &mut [u16])
+    requires { ⌜ (length (now delays) ≡ 64) × (limit ≤ 32767) × (length (now row) ≡ 64) × Small (now delays) ⌝ }
+    ensures { λ _. ⌜ BelowRow (now (delays .entry)) limit 64 (now (row .exit)) ⌝ }
 {
     let mut b = 0;
     while b < WIDTH {
-        row[b] = below(delays[start + b], limit);
+        row[b] = below(delays[b], limit);
         b += 1;
     }
 }
 
 // Turns the row of tests by the limit `last` into the one by `limit`: mostly the two are the same, and nothing is to be done.
-fn renew_row(delays: &[u16], start: usize, last: u16, limit: u16, row: &mut [u16])
-    requires { ⌜ (start + 64 ≤ length (now delays)) × (start ≤ 4096) × (limit ≤ 32767) ⌝ }
-    requires { ⌜ ((b : ℕ) → b < 64 → at (now delays) (start + b) ≤ 16383) × BelowRow (now delays) start last 64 (now row) ⌝ }
-    ensures { λ _. ⌜ BelowRow (now (delays .entry)) start limit 64 (now (row .exit)) ⌝ }
+fn renew_row(delays: &[u16], last: u16, limit: u16, row: &mut [u16])
+    requires { ⌜ (length (now delays) ≡ 64) × (limit ≤ 32767) × Small (now delays) × BelowRow (now delays) last 64 (now row) ⌝ }
+    ensures { λ _. ⌜ BelowRow (now (delays .entry)) limit 64 (now (row .exit)) ⌝ }
 {
     if limit != last {
-        row_below(delays, start, limit, row);
+        row_below(delays, limit, row);
     }
 }
 
@@ -107,94 +145,41 @@ fn exchange_row<'a>(more: &'a [u16], less: &'a [u16], place: usize, counts: &mut
     }
 }
 
-// Adds a row of tests to a row of counts.
-fn more_row(more: &[u16], place: usize, counts: &mut [u16])
-    requires { ⌜ (length (now more) ≡ 64) × (place + 64 ≤ length (now counts)) × (place ≤ 4096) ⌝ }
-    requires { ⌜ ((b : ℕ) → b < 64 → (at (now more) b ≤ 1) × (at (now counts) (place + b) ≤ 256)) ⌝ }
-    ensures { λ _. ⌜ RowShifted (λ b. 0) (λ b. at (now (more .entry)) b) place 64 (now (counts .entry)) (now (counts .exit)) ⌝ }
-{
-    let mut b = 0;
-    while b < WIDTH {
-        counts[place + b] = counts[place + b] + more[b];
-        b += 1;
-    }
-}
-
-// Takes a row of tests off a row of counts.
-fn less_row(less: &[u16], place: usize, counts: &mut [u16])
-    requires { ⌜ (length (now less) ≡ 64) × (place + 64 ≤ length (now counts)) × (place ≤ 4096) ⌝ }
-    requires { ⌜ ((b : ℕ) → b < 64 → at (now less) b ≤ at (now counts) (place + b)) ⌝ }
-    ensures { λ _. ⌜ RowShifted (λ b. at (now (less .entry)) b) (λ b. 0) place 64 (now (counts .entry)) (now (counts .exit)) ⌝ }
-{
-    let mut b = 0;
-    while b < WIDTH {
-        counts[place + b] = counts[place + b] - less[b];
-        b += 1;
-    }
-}
-
-// What each delay of a row leaves of a limit.
-fn left_row(delays: &[u16], start: usize, limit: u16, left: &mut [u16])
-    requires { ⌜ (start + 64 ≤ length (now delays)) × (start ≤ 4096) × (length (now left) ≡ 64) ⌝ }
-    ensures { λ _. ⌜ LeftRow (now (delays .entry)) start limit 64 (now (left .exit)) ⌝ }
-{
-    let mut a = 0;
-    while a < WIDTH {
-        left[a] = left_of(limit, delays[start + a]);
-        a += 1;
-    }
-}
-
-// Marks by 1 each row of counts that has to be looked at, by what is left for it before and after.
-fn mark_rows<'a>(old: &'a [u16], new: &'a [u16], fell: u16, marks: &mut [u16])
-    requires { ⌜ (length (now old) ≡ 64) × (length (now new) ≡ 64) × (length (now marks) ≡ 64) ⌝ }
-    ensures { λ _. ⌜ RowsMarked (now (old .entry)) (now (new .entry)) fell 64 (now (marks .exit)) ⌝ }
-{
-    let mut a = 0;
-    while a < WIDTH {
-        marks[a] = moves(old[a], new[a], fell);
-        a += 1;
-    }
-}
-
-// Counts an edge anew by its limit, after the delays changed. Those to its sink pass the same tests as before by limits up to `fell`.
+// Counts an edge by a row of delays from its source, a row of delays to its sink and a limit, in place of the rows and the limit that it was counted by: not
+// yet with a limit of 0 before, no more with a limit of 0 now. The delays to its sink pass the same tests in both rows by limits up to `fell`.
 fn shift_edge<'a>(
     from: &'a [u16],
     to: &'a [u16],
     next_from: &'a [u16],
     next_to: &'a [u16],
-    source: usize,
-    sink: usize,
     limit: u16,
+    next_limit: u16,
     fell: u16,
     tasks: usize,
     counts: &mut [u16],
 )
-    requires { ⌜ (tasks * 64 ≤ length (now from)) × (tasks * 64 ≤ length (now to)) × (tasks * 64 ≤ length (now «next_from»)) × (tasks * 64 ≤ length (now «next_to»)) ⌝ }
-    requires { ⌜ (tasks ≤ 64) × (source < tasks) × (sink < tasks) × (tasks * 64 ≤ length (now counts)) ⌝ }
-    requires { ⌜ (limit ≤ 32767) × SmallRows tasks (now to) × SmallRows tasks (now «next_to») × SameTests (now to) (now «next_to») sink fell ⌝ }
-    requires { ⌜ Covered (now from) (now to) source sink limit tasks (now counts) ⌝ }
-    ensures { λ _. ⌜ EdgeShifted (now (from .entry)) (now (to .entry)) (now («next_from» .entry)) (now («next_to» .entry)) source sink limit limit tasks (now (counts .entry)) (now (counts .exit)) ⌝ }
+    requires { ⌜ (length (now from) ≡ 64) × (length (now to) ≡ 64) × (length (now «next_from») ≡ 64) × (length (now «next_to») ≡ 64) × Small (now to) × Small (now «next_to») ⌝ }
+    requires { ⌜ (limit ≤ 32767) × («next_limit» ≤ 32767) × (tasks ≤ 64) × (tasks * 64 ≤ length (now counts)) × SameTests (at (now to)) (at (now «next_to»)) fell ⌝ }
+    requires { ⌜ Covered (at (now from)) (at (now to)) limit tasks (now counts) ⌝ }
+    ensures { λ _. ⌜ EdgeShifted (at (now (from .entry))) (at (now (to .entry))) (at (now («next_from» .entry))) (at (now («next_to» .entry))) limit «next_limit» tasks (now (counts .entry)) (now (counts .exit)) ⌝ }
 {
     let mut old: [u16; 64] = [0; 64];
     let mut new: [u16; 64] = [0; 64];
-    let mut marks: [u16; 64] = [0; 64];
-    left_row(from, source * WIDTH, limit, &mut old);
-    left_row(next_from, source * WIDTH, limit, &mut new);
-    mark_rows(&old, &new, fell, &mut marks);
+    left_row(from, limit, &mut old);
+    left_row(next_from, next_limit, &mut new);
     let mut more: [u16; 64] = [0; 64];
     let mut less: [u16; 64] = [0; 64];
-    let mut last_old = 0;
-    let mut last_new = 0;
+    let mut last = 0;
+    let mut next_last = 0;
     let mut a = 0;
     while a < tasks {
-        if marks[a] != 0 {
-            let before = old[a];
-            let after = new[a];
-            renew_row(to, sink * WIDTH, last_old, before, &mut less);
-            renew_row(next_to, sink * WIDTH, last_new, after, &mut more);
-            last_old = before;
-            last_new = after;
+        let before = old[a];
+        let after = new[a];
+        if moves(before, after, fell) {
+            renew_row(to, last, before, &mut less);
+            renew_row(next_to, next_last, after, &mut more);
+            last = before;
+            next_last = after;
             exchange_row(&more, &less, a * WIDTH, counts);
         }
         a += 1;
@@ -211,52 +196,15 @@ fn count_edge<'a>(
     tasks: usize,
     counts: &mut [u16],
 )
-    requires { ⌜ (tasks * 64 ≤ length (now from)) × (tasks * 64 ≤ length (now to)) × (tasks * 64 ≤ length (now counts)) ⌝ }
-    requires { ⌜ (tasks ≤ 64) × (source < tasks) × (sink < tasks) × (limit ≤ 32767) × SmallRows tasks (now to) ⌝ }
-    requires { ⌜ Covered (now from) (now to) source sink 0 tasks (now counts) ⌝ }
-    ensures { λ _. ⌜ EdgeShifted (now (from .entry)) (now (to .entry)) (now (from .entry)) (now (to .entry)) source sink 0 limit tasks (now (counts .entry)) (now (counts .exit)) ⌝ }
+    requires { ⌜ (tasks * 64 ≤ length (now from)) × (tasks * 64 ≤ length (now to)) × (tasks * 64 ≤ length (now counts)) × Small (now to) ⌝ }
+    requires { ⌜ (tasks ≤ 64) × (source < tasks) × (sink < tasks) × (limit ≤ 32767) × Covered (rowAt (now from) source) (rowAt (now to) sink) 0 tasks (now counts) ⌝ }
+    ensures { λ _. ⌜ EdgeShifted (rowAt (now (from .entry)) source) (rowAt (now (to .entry)) sink) (rowAt (now (from .entry)) source) (rowAt (now (to .entry)) sink) 0 limit tasks (now (counts .entry)) (now (counts .exit)) ⌝ }
 {
-    let mut more: [u16; 64] = [0; 64];
-    let mut last = 0;
-    let mut a = 0;
-    while a < tasks {
-        let left = left_of(limit, from[source * WIDTH + a]);
-        if left != 0 {
-            renew_row(to, sink * WIDTH, last, left, &mut more);
-            last = left;
-            more_row(&more, a * WIDTH, counts);
-        }
-        a += 1;
-    }
-}
-
-// Takes an edge out of the counts, by the limit it was counted with.
-fn drop_edge<'a>(
-    from: &'a [u16],
-    to: &'a [u16],
-    source: usize,
-    sink: usize,
-    limit: u16,
-    tasks: usize,
-    counts: &mut [u16],
-)
-    requires { ⌜ (tasks * 64 ≤ length (now from)) × (tasks * 64 ≤ length (now to)) × (tasks * 64 ≤ length (now counts)) ⌝ }
-    requires { ⌜ (tasks ≤ 64) × (source < tasks) × (sink < tasks) × (limit ≤ 32767) × SmallRows tasks (now to) ⌝ }
-    requires { ⌜ Covered (now from) (now to) source sink limit tasks (now counts) ⌝ }
-    ensures { λ _. ⌜ EdgeShifted (now (from .entry)) (now (to .entry)) (now (from .entry)) (now (to .entry)) source sink limit 0 tasks (now (counts .entry)) (now (counts .exit)) ⌝ }
-{
-    let mut less: [u16; 64] = [0; 64];
-    let mut last = 0;
-    let mut a = 0;
-    while a < tasks {
-        let left = left_of(limit, from[source * WIDTH + a]);
-        if left != 0 {
-            renew_row(to, sink * WIDTH, last, left, &mut less);
-            last = left;
-            less_row(&less, a * WIDTH, counts);
-        }
-        a += 1;
-    }
+    let s = source * WIDTH;
+    let t = sink * WIDTH;
+    let before = &from[s..s + WIDTH];
+    let after = &to[t..t + WIDTH];
+    shift_edge(before, after, before, after, 0, limit, limit, tasks, counts);
 }
 
 // Counts the edges of a stage, by counts of 0.
@@ -272,7 +220,7 @@ pub fn count_edges<'a>(
     requires { ⌜ (length (now sink) ≡ length (now source)) × (length (now delay) ≡ length (now source)) × (length (now source) ≤ 256) ⌝ }
     requires { ⌜ (tasks * 64 ≤ length (now from)) × (tasks * 64 ≤ length (now to)) × (tasks * 64 ≤ length (now counts)) ⌝ }
     requires { ⌜ (tasks ≤ 64) × Ends tasks (edgesOf (now source) (now sink) (now delay)) ⌝ }
-    requires { ⌜ SmallRows tasks (now to) × ((i : ℕ) → at (now counts) i ≡ 0) ⌝ }
+    requires { ⌜ Small (now to) × ((i : ℕ) → at (now counts) i ≡ 0) ⌝ }
     ensures { λ _. ⌜ CountsOf tasks (now (from .entry)) (now (to .entry)) (edgesOf (now (source .entry)) (now (sink .entry)) (now (delay .entry))) (now (counts .exit)) ⌝ }
 {
     let mut j = 0;
@@ -290,14 +238,11 @@ pub fn count_edges<'a>(
     }
 }
 
-// Counts one edge anew when the pair (a, b) is added: it is taken out if the pair subsumes it, and passed over if no delay that matters to it fell.
+// Counts one edge anew for the pair (a, b) that is added, by the delays before it and its source's and sink's rows of those after it: no more if the pair
+// subsumes it. It is passed over if no delay that matters to it falls: none does where the ways to the pair are longer than the edge's delay.
 fn shift_one<'a>(
     from: &'a [u16],
     to: &'a [u16],
-    next_from: &'a [u16],
-    next_to: &'a [u16],
-    fell_from: &'a [u16],
-    fell_to: &'a [u16],
     tasks: usize,
     a: usize,
     b: usize,
@@ -306,111 +251,87 @@ fn shift_one<'a>(
     delay: u8,
     counts: &mut [u16],
 )
-    requires { ⌜ (tasks * 64 ≤ length (now from)) × (tasks * 64 ≤ length (now to)) × (tasks * 64 ≤ length (now «next_from»)) × (tasks * 64 ≤ length (now «next_to»)) ⌝ }
-    requires { ⌜ (length (now «fell_from») ≡ 64) × (length (now «fell_to») ≡ 64) ⌝ }
-    requires { ⌜ RowsFell tasks (now from) (now «next_from») (now «fell_from») × RowsFell tasks (now to) (now «next_to») (now «fell_to») ⌝ }
-    requires { ⌜ SmallRows tasks (now to) × SmallRows tasks (now «next_to») ⌝ }
-    requires { ⌜ (tasks ≤ 64) × (a < tasks) × (b < tasks) × (source < tasks) × (sink < tasks) × (tasks * 64 ≤ length (now counts)) ⌝ }
-    requires { ⌜ Covered (now from) (now to) source sink (delay + 1) tasks (now counts) ⌝ }
-    ensures { λ _. ⌜ EdgeShifted (now (from .entry)) (now (to .entry)) (now («next_from» .entry)) (now («next_to» .entry)) source sink (delay + 1) (counted (not (subsumesBy (now (from .entry)) (now (to .entry)) a b (edge source sink delay))) (delay + 1)) tasks (now (counts .entry)) (now (counts .exit)) ⌝ }
+    requires { ⌜ (tasks * 64 ≤ length (now from)) × (tasks * 64 ≤ length (now to)) × (tasks * 64 ≤ length (now counts)) × Small (now from) × Small (now to) ⌝ }
+    requires { ⌜ (tasks ≤ 64) × (a < tasks) × (b < tasks) × (source < tasks) × (sink < tasks) ⌝ }
+    requires { ⌜ Covered (rowAt (now from) source) (rowAt (now to) sink) (delay + 1) tasks (now counts) ⌝ }
+    ensures { λ _. ⌜ EdgeShifted (rowAt (now (from .entry)) source) (rowAt (now (to .entry)) sink) (lowerAt a b (now (from .entry)) source) (lowerAt b a (now (to .entry)) sink) (delay + 1) (counted (not (subsumesBy (now (from .entry)) (now (to .entry)) a b (edge source sink delay))) (delay + 1)) tasks (now (counts .entry)) (now (counts .exit)) ⌝ }
 {
     let most = delay as u16;
-    let s = source as usize;
-    let t = sink as usize;
-    if is_subsumed(from, to, a, b, source, sink, delay) {
-        drop_edge(from, to, s, t, most + 1, tasks, counts);
+    let s = source as usize * WIDTH;
+    let t = sink as usize * WIDTH;
+    if both_above(most, from[s + a], to[t + b]) {
         return;
     }
-    let fell = fell_to[t];
-    if most < fell {
-        if most < fell_from[s] {
+    let mut next_from: [u16; 64] = [0; 64];
+    let mut next_to: [u16; 64] = [0; 64];
+    let fell_from = lowered(from, source as usize, a, b, &mut next_from);
+    let fell_to = lowered(to, sink as usize, b, a, &mut next_to);
+    let limit = limit_after(from, to, a, b, source, sink, delay);
+    if limit != 0 {
+        if both_above(most, fell_from, fell_to) {
             return;
         }
     }
     shift_edge(
-        from,
-        to,
-        next_from,
-        next_to,
-        s,
-        t,
+        &from[s..s + WIDTH],
+        &to[t..t + WIDTH],
+        &next_from,
+        &next_to,
         most + 1,
-        fell,
+        limit,
+        fell_to,
         tasks,
         counts,
     );
 }
 
-// Counts the edges of a stage anew when the pair (a, b) is added, what it subsumes is dropped, and delays fell.
-pub fn shift_edges<'a>(
+// Counts the edges of a stage anew for the pair (a, b) that is added: by the delays before it, those that it leaves are counted by the delays after it.
+fn shift_edges<'a>(
     source: &'a [u8],
     sink: &'a [u8],
     delay: &'a [u8],
     from: &'a [u16],
     to: &'a [u16],
-    next_from: &'a [u16],
-    next_to: &'a [u16],
-    fell_from: &'a [u16],
-    fell_to: &'a [u16],
     tasks: usize,
     a: usize,
     b: usize,
     counts: &mut [u16],
 )
     requires { ⌜ (length (now sink) ≡ length (now source)) × (length (now delay) ≡ length (now source)) × (length (now source) ≤ 256) ⌝ }
-    requires { ⌜ (tasks * 64 ≤ length (now from)) × (tasks * 64 ≤ length (now to)) × (tasks * 64 ≤ length (now «next_from»)) × (tasks * 64 ≤ length (now «next_to»)) ⌝ }
-    requires { ⌜ (length (now «fell_from») ≡ 64) × (length (now «fell_to») ≡ 64) ⌝ }
-    requires { ⌜ RowsFell tasks (now from) (now «next_from») (now «fell_from») × RowsFell tasks (now to) (now «next_to») (now «fell_to») ⌝ }
-    requires { ⌜ SmallRows tasks (now to) × SmallRows tasks (now «next_to») ⌝ }
+    requires { ⌜ (tasks * 64 ≤ length (now from)) × (tasks * 64 ≤ length (now to)) × Small (now from) × Small (now to) ⌝ }
     requires { ⌜ (tasks ≤ 64) × (a < tasks) × (b < tasks) × Ends tasks (edgesOf (now source) (now sink) (now delay)) ⌝ }
     requires { ⌜ CountsOf tasks (now from) (now to) (edgesOf (now source) (now sink) (now delay)) (now counts) ⌝ }
-    ensures { λ _. ⌜ CountsOf tasks (now («next_from» .entry)) (now («next_to» .entry)) (withPair (keep (λ e. not (subsumesBy (now (from .entry)) (now (to .entry)) a b e)) (edgesOf (now (source .entry)) (now (sink .entry)) (now (delay .entry)))) a b) (now (counts .exit)) ⌝ }
+    ensures { λ _. ⌜ ((from′ to′ : List ℕ) → Lowers a b tasks (now (from .entry)) from′ → Lowers b a tasks (now (to .entry)) to′ → CountsOf tasks from′ to′ (keep (λ e. not (subsumesBy (now (from .entry)) (now (to .entry)) a b e)) (edgesOf (now (source .entry)) (now (sink .entry)) (now (delay .entry)))) (now (counts .exit))) ⌝ }
 {
     let mut j = 0;
     while j < source.len() {
-        shift_one(
-            from,
-            to,
-            next_from,
-            next_to,
-            fell_from,
-            fell_to,
-            tasks,
-            a,
-            b,
-            source[j],
-            sink[j],
-            delay[j],
-            counts,
-        );
+        shift_one(from, to, tasks, a, b, source[j], sink[j], delay[j], counts);
         j += 1;
     }
-    count_edge(next_from, next_to, a, b, 1, tasks, counts);
 }
 
-// For each task a number that no pair into it exceeds by the edges that it subsumes, by numbers of 0: of how many edges it leads to the sink within their
-// delay.
-pub fn most_by_sink<'a>(
+// Adds the pair (a, b) to delays and counts of a stage: what the pair subsumes is dropped, delays fall to the way to a and the way from b on, and the pair's own
+// edge is counted last.
+pub fn add_pair<'a, 'b>(
+    source: &'a [u8],
     sink: &'a [u8],
     delay: &'a [u8],
-    to: &'a [u16],
     tasks: usize,
-    most: &mut [u16],
+    a: usize,
+    b: usize,
+    from: &'b mut [u16],
+    to: &'b mut [u16],
+    counts: &'b mut [u16],
 )
-    requires { ⌜ (length (now delay) ≡ length (now sink)) × (length (now sink) ≤ 256) × (tasks ≤ 64) × (tasks * 64 ≤ length (now to)) ⌝ }
-    requires { ⌜ SmallRows tasks (now to) × ((j : ℕ) → j < length (now sink) → at (now sink) j < tasks) × (now most ≡ replicate 64 0) ⌝ }
-    ensures { λ _. ⌜ MostBySink (now (sink .entry)) (now (delay .entry)) (now (to .entry)) (length (now (sink .entry))) (now (most .exit)) ⌝ }
+    requires { ⌜ (length (now sink) ≡ length (now source)) × (length (now delay) ≡ length (now source)) × (length (now source) ≤ 256) ⌝ }
+    requires { ⌜ (tasks * 64 ≤ length (now from)) × (tasks * 64 ≤ length (now to)) × Small (now from) × Small (now to) ⌝ }
+    requires { ⌜ (tasks ≤ 64) × (a < tasks) × (b < tasks) × Ends tasks (edgesOf (now source) (now sink) (now delay)) ⌝ }
+    requires { ⌜ CountsOf tasks (now from) (now to) (edgesOf (now source) (now sink) (now delay)) (now counts) ⌝ }
+    ensures delays { λ _. ⌜ RowsJoined a b tasks (now (from .entry)) (now (from .exit)) × RowsJoined b a tasks (now (to .entry)) (now (to .exit)) ⌝ }
+    ensures counts { λ _. ⌜ CountsOf tasks (now (from .exit)) (now (to .exit)) (withPair (keep (λ e. not (subsumesBy (now (from .entry)) (now (to .entry)) a b e)) (edgesOf (now (source .entry)) (now (sink .entry)) (now (delay .entry)))) a b) (now (counts .exit)) ⌝ }
 {
-    let mut tests: [u16; 64] = [0; 64];
-    let mut j = 0;
-    while j < sink.len() {
-        row_below(
-            to,
-            sink[j] as usize * WIDTH,
-            delay[j] as u16 + 1,
-            &mut tests,
-        );
-        more_row(&tests, 0, most);
-        j += 1;
-    }
+    shift_edges(source, sink, delay, from, to, tasks, a, b, counts);
+    join_rows(from, tasks, a, b);
+    join_rows(to, tasks, b, a);
+    count_edge(from, to, a, b, 1, tasks, counts);
 }

@@ -7,8 +7,14 @@ ghost use Rattle.model.specs.Tasks.{Edge};
 ghost use Rattle.model.specs.Compute.{present, leastDelay};
 ghost use Rattle.delays.specs.Delays.{delayTable, Fit};
 
-// No path.
+// No path, in a finished table.
 const NONE: u16 = 65535;
+
+// No path, while delays are worked out: above every least delay, and so small that the sum of two is below 32,768 and can be compared as a signed number.
+pub const FAR: u16 = 16383;
+
+// Places of a row of delays or counts, for as many tasks as there can be.
+pub const WIDTH: usize = 64;
 
 // Whether a path leads from one task to another, by the table of least delays.
 pub fn has_path(table: &[u16], tasks: usize, from: usize, to: usize) -> bool

@@ -1,5 +1,5 @@
--- Marks by which the search for a repeated edge passes over edges at whose place no earlier edge has left their mark.
-use mathlib.Core.Logic.{_⊎_}
+-- Marks by which the search for a repeated edge passes over edges at whose place no earlier edge has left a mark.
+use mathlib.Core.Logic.{_≢_}
 use mathlib.Core.Path.{_≡_}
 use mathlib.Core.List.{List}
 use Prim.Native.Nat.{ℕ, _+_, _*_, _%_, _<_}
@@ -9,23 +9,7 @@ use lib.ListN.{length, getD}
 abbrev pub edgePlace : ℕ → ℕ → ℕ → ℕ
 edgePlace source sink delay = (source * 64 + sink + delay * 1657) % 4096
 
--- the mark of an edge that has its place to itself: by its delay, in which different edges with one place differ
-abbrev pub edgeMark : ℕ → ℕ
-edgeMark delay = delay % 128 + 1
-
--- the mark of a place that edges share
-abbrev pub sharedMark : ℕ
-sharedMark = 255
-
--- The first `many` numbers of a list are the places of the edges that the lists hold.
-pub record Placed (source sink delay : List ℕ) (many : ℕ) (places : List ℕ) : Type 0 where
-  pub room : length places ≡ 256
-  pub each : (i : ℕ) → i < many → getD places i 0 ≡ edgePlace (getD source i 0) (getD sink i 0) (getD delay i 0)
-
--- Each of the first j edges that the lists hold has its mark at its place, or the place is marked as shared.
+-- The places of the first j edges that the lists hold are marked.
 pub record Marked (source sink delay : List ℕ) (j : ℕ) (seen : List ℕ) : Type 0 where
   pub room : length seen ≡ 4096
-  pub each :
-      (i : ℕ) → i < j
-      → (getD seen (edgePlace (getD source i 0) (getD sink i 0) (getD delay i 0)) 0 ≡ edgeMark (getD delay i 0)) ⊎
-      (getD seen (edgePlace (getD source i 0) (getD sink i 0) (getD delay i 0)) 0 ≡ sharedMark)
+  pub each : (i : ℕ) → i < j → getD seen (edgePlace (getD source i 0) (getD sink i 0) (getD delay i 0)) 0 ≢ 0

@@ -3,11 +3,11 @@
 ghost use mathlib.Core.Path.{_≡_};
 ghost use mathlib.Core.List.{List};
 ghost use Prim.Native.Nat.{_+_, _≤_, _<_};
-ghost use lib.ListN.{length, getD};
+ghost use lib.ListN.{length};
 ghost use Rattle.model.specs.Tasks.{Task, Edge};
 ghost use Rattle.model.specs.Graph.{Graph};
 ghost use Rattle.files.specs.Files.{firstOf, timeRefusal, endsRefusal, edgeRefusal, repeatRefusal, repeatsEarlier, graphRecordsRefusal, proposedEdgesRefusal};
-ghost use Rattle.files.specs.Marks.{edgePlace, Placed, Marked};
+ghost use Rattle.files.specs.Marks.{edgePlace, Marked};
 ghost use Rattle.records.specs.Columns.{ProcessorsOf, TimesOf, SourcesOf, SinksOf, DelaysOf};
 use crate::PASSED;
 use crate::Refusal;
@@ -97,18 +97,6 @@ fn repeats_earlier<'a>(source: &'a [u8], sink: &'a [u8], delay: &'a [u8], j: usi
     found
 }
 
-// Room for a mark at each place.
-struct Marks {
-    seen: [u8; 4096],
-}
-
-// Marks to write into.
-fn blank_marks() -> Marks
-    ensures { λ r. ⌜ length (r .seen) ≡ 4096 ⌝ }
-{
-    Marks { seen: [0; 4096] }
-}
-
 // The place of an edge's mark.
 fn edge_place(source: u8, sink: u8, delay: u8) -> usize
     ensures { λ r. ⌜ r ≡ edgePlace source sink delay ⌝ }
@@ -116,93 +104,28 @@ fn edge_place(source: u8, sink: u8, delay: u8) -> usize
     (source as usize * 64 + sink as usize + delay as usize * 1657) % 4096
 }
 
-// The places of the edges' marks, at the front of a list. A loop of its own: it is compiled to work on many edges at once.
-fn places_into<'a>(source: &'a [u8], sink: &'a [u8], delay: &'a [u8], places: &mut [u16])
-    requires { ⌜ (length (now source) ≤ 256) × (length (now sink) ≡ length (now source)) × (length (now delay) ≡ length (now source)) × (length (now places) ≡ 256) ⌝ }
-    ensures { λ _. ⌜ Placed (now (source .entry)) (now (sink .entry)) (now (delay .entry)) (length (now (source .entry))) (now (places .exit)) ⌝ }
-{
-    let mut j = 0;
-    while j < source.len() {
-        places[j] = edge_place(source[j], sink[j], delay[j]) as u16;
-        j += 1;
-    }
-}
-
-// The mark of a place that edges share. An edge that has its place to itself leaves 1 to 128 there, by its delay.
-const SHARED: u8 = 255;
-
-// Whether edge j has the source, sink and delay of an earlier one, where each earlier one is marked at the place of its numbers; edge j
-// is marked too, at its own. The earlier ones are compared only if its own mark was there before, or that of a shared place.
+// Whether edge j has the source, sink and delay of an earlier one, where the place of each earlier one is marked; its own is marked too. The
+// earlier ones are compared only if it was marked before.
 fn repeats_marked<'a>(
     source: &'a [u8],
     sink: &'a [u8],
     delay: &'a [u8],
     j: usize,
-    place: usize,
     seen: &mut [u8],
 ) -> bool
-    requires { ⌜ (j < length (now source)) × (place ≡ edgePlace (getD (now source) j 0) (getD (now sink) j 0) (getD (now delay) j 0)) ⌝ }
+    requires { ⌜ j < length (now source) ⌝ }
     requires { ⌜ length (now sink) ≡ length (now source) ⌝ }
     requires { ⌜ length (now delay) ≡ length (now source) ⌝ }
     requires { ⌜ Marked (now source) (now sink) (now delay) j (now seen) ⌝ }
     ensures { λ r. ⌜ ((es : List Edge) → SourcesOf es (now (source .entry)) → SinksOf es (now (sink .entry)) → DelaysOf es (now (delay .entry)) → r ≡ repeatsEarlier es j) ⌝ }
     ensures { λ _. ⌜ Marked (now (source .entry)) (now (sink .entry)) (now (delay .entry)) (j + 1) (now (seen .exit)) ⌝ }
 {
-    let before = seen[place];
-    let mark = delay[j] % 128 + 1;
-    if before == 0 {
-        seen[place] = mark;
-        return false;
-    }
-    seen[place] = SHARED;
-    if (before != mark) & (before != SHARED) {
+    let place = edge_place(source[j], sink[j], delay[j]);
+    if seen[place] == 0 {
+        seen[place] = 1;
         return false;
     }
     repeats_earlier(source, sink, delay, j)
-}
-
-// 8 by comparing each edge with all earlier ones: for few edges.
-fn few_repeats_refusal<'a>(source: &'a [u8], sink: &'a [u8], delay: &'a [u8]) -> Refusal
-    requires { ⌜ length (now source) ≤ 256 ⌝ }
-    requires { ⌜ length (now sink) ≡ length (now source) ⌝ }
-    requires { ⌜ length (now delay) ≡ length (now source) ⌝ }
-    ensures { λ r. ⌜ ((es : List Edge) → SourcesOf es (now (source .entry)) → SinksOf es (now (sink .entry)) → DelaysOf es (now (delay .entry)) → r ≡ firstOf (length es) (repeatRefusal es)) ⌝ }
-{
-    let mut j = 0;
-    while j < source.len() {
-        if repeats_earlier(source, sink, delay, j) {
-            return Refusal {
-                number: 8,
-                place: j as u32 + 1,
-            };
-        }
-        j += 1;
-    }
-    PASSED
-}
-
-// 8 by marks: for many edges.
-fn many_repeats_refusal<'a>(source: &'a [u8], sink: &'a [u8], delay: &'a [u8]) -> Refusal
-    requires { ⌜ length (now source) ≤ 256 ⌝ }
-    requires { ⌜ length (now sink) ≡ length (now source) ⌝ }
-    requires { ⌜ length (now delay) ≡ length (now source) ⌝ }
-    ensures { λ r. ⌜ ((es : List Edge) → SourcesOf es (now (source .entry)) → SinksOf es (now (sink .entry)) → DelaysOf es (now (delay .entry)) → r ≡ firstOf (length es) (repeatRefusal es)) ⌝ }
-{
-    let mut places: [u16; 256] = [0; 256];
-    places_into(source, sink, delay, &mut places);
-    let blank = blank_marks();
-    let mut seen = blank.seen;
-    let mut j = 0;
-    while j < source.len() {
-        if repeats_marked(source, sink, delay, j, places[j] as usize, &mut seen) {
-            return Refusal {
-                number: 8,
-                place: j as u32 + 1,
-            };
-        }
-        j += 1;
-    }
-    PASSED
 }
 
 // 8: the first edge that repeats an earlier one.
@@ -212,10 +135,18 @@ fn repeats_refusal<'a>(source: &'a [u8], sink: &'a [u8], delay: &'a [u8]) -> Ref
     requires { ⌜ length (now delay) ≡ length (now source) ⌝ }
     ensures { λ r. ⌜ ((es : List Edge) → SourcesOf es (now (source .entry)) → SinksOf es (now (sink .entry)) → DelaysOf es (now (delay .entry)) → r ≡ firstOf (length es) (repeatRefusal es)) ⌝ }
 {
-    if source.len() <= 16 {
-        return few_repeats_refusal(source, sink, delay);
+    let mut seen: [u8; 4096] = [0; 4096];
+    let mut j = 0;
+    while j < source.len() {
+        if repeats_marked(source, sink, delay, j, &mut seen) {
+            return Refusal {
+                number: 8,
+                place: j as u32 + 1,
+            };
+        }
+        j += 1;
     }
-    many_repeats_refusal(source, sink, delay)
+    PASSED
 }
 
 // "tasks 5; each edge 6 then 7; then 8" of a graph.

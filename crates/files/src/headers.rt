@@ -81,7 +81,7 @@ fn filling_refusal(bytes: &[u8], used: usize) -> Refusal
     ensures { λ r. ⌜ r ≡ fillingRefusal (now (bytes .entry)) used ⌝ }
 {
     let left = 8 * bytes.len() - used;
-    if bits::field_at(bytes, used, left) != 0 {
+    if layout::field_from(bytes, used, left) != 0 {
         return FILLING_BIT;
     }
     PASSED

@@ -15,7 +15,7 @@ pub struct Refusal {
 }
 
 // Nothing is refused.
-const PASSED: Refusal = Refusal {
+pub const PASSED: Refusal = Refusal {
     number: 0,
     place: 0,
 };

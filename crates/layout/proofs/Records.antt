@@ -2,7 +2,7 @@
 -- first bits are a shift away, its last ones a mask), and each field is below the power of its width.
 use mathlib.Core.Path.{_≡_, ap, _∙_}
 use mathlib.Core.List.{List}
-use Prim.Native.Nat.{ℕ, _+_, _/_, _%_, _<_, _^_}
+use Prim.Native.Nat.{ℕ, _+_, _/_, _%_, _<_}
 use lib.Bits.{bitAnd, and-mask}
 use Rattle.bits.specs.Bits.{field}
 use Rattle.bits.proofs.Laws.{field-below, field-high, field-low}

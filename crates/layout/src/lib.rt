@@ -1,5 +1,6 @@
 // Where the fields of the two files stand. The headers and records are read by a `Reader`; callers hand over plain bytes.
 ghost use mathlib.Core.Path.{_≡_};
+ghost use Prim.Native.Nat.{_≤_};
 ghost use Rattle.bits.specs.Bits.{field};
 ghost use Rattle.layout.specs.Layout.{graphHeader, proposalHeader, taskAt, edgeAt};
 use bits::Reader;
@@ -28,11 +29,12 @@ pub struct ProposalHeader {
     pub zeros: u32,
 }
 
-// The 20 bits of a task or of an edge.
-pub fn record_at(bytes: &[u8], position: usize) -> u32
-    ensures { λ r. ⌜ r ≡ field (now (bytes .entry)) position 20 ⌝ }
+// The field of a width from a bit position on.
+pub fn field_from(bytes: &[u8], position: usize, width: usize) -> u32
+    requires { ⌜ width ≤ 25 ⌝ }
+    ensures { λ r. ⌜ r ≡ field (now (bytes .entry)) position width ⌝ }
 {
-    Reader::new(bytes, position).field(20)
+    Reader::new(bytes, position).field(width)
 }
 
 pub fn graph_header(bytes: &[u8]) -> GraphHeader
@@ -86,7 +88,7 @@ pub fn task_at(bytes: &[u8], position: usize) -> TaskRecord
     ensures processor { λ r. ⌜ r .processor ≡ taskAt (now (bytes .entry)) position .processor ⌝ }
     ensures time { λ r. ⌜ r .time ≡ taskAt (now (bytes .entry)) position .time ⌝ }
 {
-    let record = record_at(bytes, position);
+    let record = field_from(bytes, position, RECORD_BITS);
     TaskRecord {
         processor: (record >> 16) as u8,
         time: (record & 0xffff) as u16,
@@ -106,7 +108,7 @@ pub fn edge_at(bytes: &[u8], position: usize) -> EdgeRecord
     ensures sink { λ r. ⌜ r .sink ≡ edgeAt (now (bytes .entry)) position .sink ⌝ }
     ensures delay { λ r. ⌜ r .delay ≡ edgeAt (now (bytes .entry)) position .delay ⌝ }
 {
-    let record = record_at(bytes, position);
+    let record = field_from(bytes, position, RECORD_BITS);
     EdgeRecord {
         source: (record >> 14) as u8,
         sink: ((record >> 8) & 0x3f) as u8,

@@ -12,7 +12,6 @@ pub mod Starts
 pub mod Cycles
 pub mod Graphs
 pub mod Together
-pub mod Redundant
 pub mod Results
 pub mod Accepted
 pub mod Theorems

@@ -1,5 +1,5 @@
 -- Every sentence of specs/Theorems.antt, proved: the index of the theory, each from the file that has the argument.
-use Rattle.model.specs.Theorems.{LeastDelayIs, LeastUnique, RowLeast, OrderHoldsIs, OnCycleIs, ZeroCycleIs, InputFreeIs, JoinedIs, DistinctIs, RedundantIs, FeedbackIs, WithinProcessor, ProcessorEdgesAre, GraphSerial, EarliestRun, EarliestUnique, EarliestReached, NeverStallsIff, OrdersIff, OrderLost, LostIff, LatencyIs, LatencyUnique, FirstOutput, FirstOutputExact, MissesBoundIff, ResultEdges, ResultDrops, ResultCycles, ResultNeverStalls, ResultOrders, ResultLost, ResultMisses, AcceptedResult, AcceptedIff, DroppedTogether, RedundantByTable, LeastBound, ZeroSumBound, StartBound}
+use Rattle.model.specs.Theorems.{LeastDelayIs, LeastUnique, RowLeast, OrderHoldsIs, OnCycleIs, ZeroCycleIs, InputFreeIs, JoinedIs, DistinctIs, RedundantIs, FeedbackIs, WithinProcessor, ProcessorEdgesAre, GraphSerial, EarliestRun, EarliestUnique, EarliestReached, NeverStallsIff, OrdersIff, OrderLost, LostIff, LatencyIs, LatencyUnique, FirstOutput, FirstOutputExact, MissesBoundIff, ResultEdges, ResultDrops, ResultCycles, ResultNeverStalls, ResultOrders, ResultLost, ResultMisses, AcceptedResult, AcceptedIff, DroppedTogether, LeastBound, ZeroSumBound, StartBound}
 use Rattle.model.proofs.Least
 use Rattle.model.proofs.Tests
 use Rattle.model.proofs.Bounds
@@ -10,7 +10,6 @@ use Rattle.model.proofs.Latency
 use Rattle.model.proofs.Starts
 use Rattle.model.proofs.Graphs
 use Rattle.model.proofs.Together
-use Rattle.model.proofs.Redundant
 use Rattle.model.proofs.Results
 use Rattle.model.proofs.Accepted
 
@@ -133,9 +132,6 @@ accepted-iff = Accepted.accepted-iff
 
 pub dropped-together : DroppedTogether
 dropped-together g bounds acyclic distinct marked redundant = Together.dropped-together g bounds acyclic distinct marked redundant
-
-pub redundant-by-table : RedundantByTable
-redundant-by-table = Redundant.redundant-by-table
 
 -- ── Bounds ──
 

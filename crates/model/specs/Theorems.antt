@@ -11,7 +11,7 @@ use Rattle.model.specs.Lists.{sumBelow}
 use Rattle.model.specs.Tasks.{Edge, _∈_, Ends, Distinct, Task, processorOf, ProcessorEdge}
 use Rattle.model.specs.Processors.{processorEdges}
 use Rattle.model.specs.Graph.{Graph, count, edges, timeOf, WellFormedEdges}
-use Rattle.model.specs.Paths.{Path, Least, OrderHeld, AllHeld, SomeLost, NoneOnCycle, edgesWithout, syncAt, Redundant, OnCycle, Feedback, Feedforward, ZeroCycle, NoZeroCycle, SameCycles, ZeroWalk, timesAlong, Latency, InputFree, Joined, Serial}
+use Rattle.model.specs.Paths.{Path, Least, OrderHeld, AllHeld, SomeLost, NoneOnCycle, Redundant, OnCycle, Feedback, Feedforward, ZeroCycle, NoZeroCycle, SameCycles, ZeroWalk, timesAlong, Latency, InputFree, Joined, Serial}
 use Rattle.model.specs.Runs.{Times, ends, AtLeastOne, Keeps, Allows, RunsAllowed, SomeRunBreaks, NeverStalls, Earliest, estimates, MissesBound}
 use Rattle.model.specs.Compute.{leastDelay, orderHolds, isRedundant, onCycle, zeroCycle, inputFree, joined, distinct, earliest, latency, isFeedback, latencyOf}
 use Rattle.model.specs.Proposals.{result, dropping, AcceptedGraph, AcceptedProposal}
@@ -223,20 +223,6 @@ abbrev pub DroppedTogether : Type 0
 DroppedTogether =
     (g : Graph) → Ends (count g) (g .syncs) → NoZeroCycle (edges g) → Distinct (g .syncs) → (marked : ℕ → Bool) →
     ((i : ℕ) → i < length (g .syncs) → T (marked i) → Redundant g i) → AllHeld (edges (dropping g marked)) (edges g)
-
--- f leads from the source of e to the sink of e, alone or followed by a least path of es, within the delay of e.
-pub record Way (es : List Edge) (e f : Edge) : Type 0 where
-  pub same-source : f .source ≡ e .source
-  pub within : ((f .sink ≡ e .sink) × (f .delay ≤ e .delay)) ⊎ ((d : ℕ) × Least es (f .sink) (e .sink) (some d) × (f .delay + d ≤ e .delay))
-
--- An edge other than the one at place i is such a way for e, by least paths of the whole graph.
-abbrev pub OtherWay : Graph → ℕ → Edge → Type 0
-OtherWay g i e = (f : Edge) × f ∈ edgesWithout g i × Way (edges g) e f
-
--- One table of least delays serves every edge: in a graph without zero-delay cycle an edge is redundant exactly if there is such another way.
-abbrev pub RedundantByTable : Type 0
-RedundantByTable =
-    (g : Graph) → Ends (count g) (g .syncs) → NoZeroCycle (edges g) → (i : ℕ) → i < length (g .syncs) → Redundant g i ↔ OtherWay g i (syncAt g i)
 
 -- ── Bounds ──
 

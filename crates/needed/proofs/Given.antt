@@ -54,7 +54,7 @@ module _ {g : Graph} {tasks : ℕ} {source sink delay : List ℕ} (given : Liste
   held-graph = record {
     as-many = sym (given .as-many);
     held = sym (given .edges-are);
-    ends = well .syncs-formed .ends;
+    formed = well;
     no-zero-cycle = given .graph .no-zero-cycle;
   }
 

@@ -1,4 +1,3 @@
 -- The proofs that other crates may cite.
 pub mod FirstReady
 mod Starting
-pub mod Pairless

@@ -13,8 +13,8 @@ use Rattle.model.specs.Graph.{Graph, WellFormedEdges, count, edges}
 use Rattle.model.specs.Proposals.{AcceptedGraph}
 use Rattle.model.specs.Plan.{counting, firstStage, at-first}
 use Rattle.model.proofs.Stages.{stage-accepted}
-use Rattle.records.specs.Columns.{at, heldEdge, edgesOf}
-use Rattle.records.proofs.Edges.{edges-length, edge-in}
+use Rattle.records.specs.Columns.{at, edgesOf}
+use Rattle.records.proofs.Edges.{edges-length}
 use Rattle.records.proofs.Fill.{length-tabulate}
 use Rattle.records.proofs.Rows.{rows-length, place-within, product-small}
 use Rattle.delays.specs.Delays.{entry, delayTable}
@@ -93,10 +93,6 @@ module _ {tasks : ℕ} {g : Graph} (accepted : AcceptedGraph g) (same : tasks �
 
     pub stage-ends : Ends tasks (edgesOf source sink delay)
     stage-ends = subst (λ (es : List Edge). Ends tasks es) (sym held) (subst (λ (n : ℕ). Ends n (firstStage g)) (sym same) (formed .ends))
-
-    pub stage-sinks : length sink ≡ length source → (j : ℕ) → j < length sink → at sink j < tasks
-    unfolding heldEdge at
-    stage-sinks as-long j l = stage-ends (heldEdge source sink delay j) (edge-in source sink delay j (omega arith)) .1
 
 -- counts of edges are counts of the same edges
 pub counts-held :

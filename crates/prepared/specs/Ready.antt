@@ -26,9 +26,3 @@ pub record Ready (g : Graph) (list : List Edge) (from to counts : List ℕ) : Ty
   pub from-is : (x y : ℕ) → x < count g → y < count g → at from (x * 64 + y) ≡ cut (counting (count g) (presentEdges g list) x y)
   pub to-is : (x y : ℕ) → x < count g → y < count g → at to (y * 64 + x) ≡ cut (counting (count g) (presentEdges g list) x y)
   pub counts-are : CountsOf (count g) from to list counts
-
--- The lists hold the same delays, and no pair without a path back subsumes two edges of the stage, as its counts would say.
-pub record NoPair (g : Graph) (list : List Edge) (from to : List ℕ) : Type 0 where
-  pub counts : List ℕ
-  pub ready : Ready g list from to counts
-  pub few : (a b : ℕ) → a < count g → b < 64 → at to (a * 64 + b) ≡ 16383 → at counts (a * 64 + b) < 2

@@ -1,6 +1,5 @@
 // What the steps of a plan start from: delays and counts of the first stage, in rows of 64 numbers.
 ghost use mathlib.Core.Path.{_≡_};
-ghost use mathlib.Core.Bool.{true, false};
 ghost use mathlib.Core.List.{List, _++_};
 ghost use Prim.Native.Nat.{ℕ, _*_, _≤_};
 ghost use lib.ListN.{length};
@@ -9,16 +8,12 @@ ghost use Rattle.model.specs.Proposals.{AcceptedGraph};
 ghost use Rattle.model.specs.Plan.{firstStage};
 ghost use Rattle.records.specs.Columns.{at, edgesOf};
 ghost use Rattle.delays.specs.Delays.{delayTable};
-ghost use Rattle.prepared.specs.Ready.{Ready, NoPair};
-use candidates::has_pair;
-use candidates::has_sink;
+ghost use Rattle.prepared.specs.Ready.{Ready};
 use candidates::zero_diagonal;
 use counts::count_edges;
-use counts::most_by_sink;
 use updates::spread;
 
-// Delays and counts of the first stage, by its edges, the graph's table of least delays and lists of 0. False if no pair without a path back subsumes two
-// edges; where no such pair leads to a task into which pairs may, they need not be counted.
+// Delays and counts of the first stage, by its edges, the graph's table of least delays and lists of 0.
 pub fn start<'a, 'b>(
     tasks: usize,
     source: &'a [u8],
@@ -28,23 +23,16 @@ pub fn start<'a, 'b>(
     from: &'b mut [u16],
     to: &'b mut [u16],
     counts: &'b mut [u16],
-) -> bool
+)
     requires { ⌜ (length (now sink) ≡ length (now source)) × (length (now delay) ≡ length (now source)) ⌝ }
     requires { ⌜ ((g : Graph) × AcceptedGraph g × (tasks ≡ count g) × (edgesOf (now source) (now sink) (now delay) ≡ firstStage g) × ((past : List ℕ) × (now table ≡ delayTable (count g) (edges g) ++ past))) ⌝ }
     requires { ⌜ (tasks * 64 ≤ length (now from)) × (tasks * 64 ≤ length (now to)) × (tasks * 64 ≤ length (now counts)) ⌝ }
     requires { ⌜ ((i : ℕ) → at (now from) i ≡ 0) × ((i : ℕ) → at (now to) i ≡ 0) × ((i : ℕ) → at (now counts) i ≡ 0) ⌝ }
-    ensures ready { λ r. ⌜ (r ≡ true → (g : Graph) → AcceptedGraph g → tasks ≡ count g → edgesOf (now (source .entry)) (now (sink .entry)) (now (delay .entry)) ≡ firstStage g → ((past : List ℕ) → now (table .entry) ≡ delayTable (count g) (edges g) ++ past → Ready g (firstStage g) (now (from .exit)) (now (to .exit)) (now (counts .exit)))) ⌝ }
-    ensures none { λ r. ⌜ (r ≡ false → (g : Graph) → AcceptedGraph g → tasks ≡ count g → edgesOf (now (source .entry)) (now (sink .entry)) (now (delay .entry)) ≡ firstStage g → ((past : List ℕ) → now (table .entry) ≡ delayTable (count g) (edges g) ++ past → NoPair g (firstStage g) (now (from .exit)) (now (to .exit)))) ⌝ }
+    ensures { λ _. ⌜ ((g : Graph) → AcceptedGraph g → tasks ≡ count g → edgesOf (now (source .entry)) (now (sink .entry)) (now (delay .entry)) ≡ firstStage g → ((past : List ℕ) → now (table .entry) ≡ delayTable (count g) (edges g) ++ past → Ready g (firstStage g) (now (from .exit)) (now (to .exit)) (now (counts .exit)))) ⌝ }
 {
     let size = tasks * tasks;
     zero_diagonal(&mut table[0..size], tasks);
     spread(&table[0..size], tasks, 1, tasks, from);
     spread(&table[0..size], 1, tasks, tasks, to);
-    let mut most: [u16; 64] = [0; 64];
-    most_by_sink(sink, delay, to, tasks, &mut most);
-    if !has_sink(&most, to, tasks) {
-        return false;
-    }
     count_edges(source, sink, delay, from, to, tasks, counts);
-    has_pair(counts, to, tasks)
 }

@@ -22,15 +22,23 @@ pub fn with_bit(word: u64, at: usize) -> u64
     word | (1 << at)
 }
 
+// Whether a bit of a word is set.
+pub fn has_bit(word: u64, at: usize) -> bool
+    requires { ⌜ at < 64 ⌝ }
+    ensures { λ r. ⌜ r ≡ bit word at ⌝ }
+{
+    (word >> at) & 1 != 0
+}
+
 // A word, with the bits of another word too if bit k is set.
-fn joined(word: u64, row: u64, k: usize) -> u64
+pub fn joined(word: u64, row: u64, k: usize) -> u64
     requires { ⌜ k < 64 ⌝ }
     ensures { λ r. ⌜ ((b : ℕ) → bit r b ≡ bit word b || (bit word k && bit row b)) ⌝ }
 {
-    if (word >> k) & 1 == 0 {
-        return word;
+    if has_bit(word, k) {
+        return word | row;
     }
-    word | row
+    word
 }
 
 // One round: a processor from which a path leads to processor k takes over where paths lead from k.
@@ -127,5 +135,5 @@ pub fn leads_to(words: &[u64], from: usize, to: usize) -> bool
     requires { ⌜ (from < length (now words)) × (to < 64) ⌝ }
     ensures { λ r. ⌜ r ≡ bit (getD (now (words .entry)) from 0) to ⌝ }
 {
-    (words[from] >> to) & 1 != 0
+    has_bit(words[from], to)
 }

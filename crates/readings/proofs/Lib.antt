@@ -5,4 +5,3 @@ pub mod Answers
 pub mod Columns
 pub mod Accepted
 pub mod Held
-mod Zeroed

@@ -6,7 +6,6 @@ ghost use Rattle.files.specs.Files.{graphOf, graphRecordsRefusal};
 ghost use Rattle.records.specs.Columns.{zeros};
 ghost use Rattle.readings.specs.Working.{GraphLists, graphFrom, graphReading};
 use crate::GraphNumbers;
-use crate::GraphReading;
 use crate::clearing::clear_bytes;
 use crate::clearing::clear_times;
 use files::Refusal;
@@ -128,38 +127,5 @@ pub fn read_graph_into<'a>(
         input: header.input,
         output: header.output,
         bound: header.bound,
-    }
-}
-
-// The same in one struct.
-pub fn read_graph(bytes: &[u8]) -> GraphReading
-    ensures { λ r. ⌜ r ≡ graphReading (now (bytes .entry)) ⌝ }
-{
-    let mut processor: [u8; 64] = [0; 64];
-    let mut time: [u16; 64] = [0; 64];
-    let mut source: [u8; 320] = [0; 320];
-    let mut sink: [u8; 320] = [0; 320];
-    let mut delay: [u8; 320] = [0; 320];
-    let numbers = read_graph_into(
-        bytes,
-        &mut processor,
-        &mut time,
-        &mut source,
-        &mut sink,
-        &mut delay,
-    );
-    let refusal = numbers.refusal;
-    GraphReading {
-        refusal,
-        tasks: numbers.tasks,
-        edges: numbers.edges,
-        input: numbers.input,
-        output: numbers.output,
-        bound: numbers.bound,
-        processor,
-        time,
-        source,
-        sink,
-        delay,
     }
 }

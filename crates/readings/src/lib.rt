@@ -4,14 +4,12 @@ mod graphs;
 mod proposals;
 
 use files::Refusal;
-pub use graphs::read_graph;
 pub use graphs::read_graph_into;
-pub use proposals::read_proposal;
 pub use proposals::read_proposal_into;
 
-// A graph file as read. The edges that order the graph stand in one list: processor edges first, entry v the one out of
-// task v, then from entry `tasks` on those of the file. Past the ends, and in a refused reading, every number is 0.
-#[repr(C)]
+// A graph file as read, as contracts state it; in code its numbers and its lists stand apart. The edges that order the graph stand in one list:
+// processor edges first, entry v the one out of task v, then from entry `tasks` on those of the file. Past the ends, and in a refused reading,
+// every number is 0.
 pub struct GraphReading {
     pub refusal: Refusal,
     pub tasks: u32,
@@ -26,7 +24,7 @@ pub struct GraphReading {
     pub delay: [u8; 320],
 }
 
-// The numbers of a graph file as read, where its lists stand apart. In a refused reading every number but the refusal's is 0.
+// The numbers of a graph file as read. In a refused reading every number but the refusal's is 0.
 #[repr(C)]
 pub struct GraphNumbers {
     pub refusal: Refusal,
@@ -37,8 +35,7 @@ pub struct GraphNumbers {
     pub bound: u32,
 }
 
-// A proposal file as read. Past the end, and in a refused reading, every number is 0.
-#[repr(C)]
+// A proposal file as read, as contracts state it. Past the end, and in a refused reading, every number is 0.
 pub struct ProposalReading {
     pub refusal: Refusal,
     pub edges: u32,
@@ -47,7 +44,7 @@ pub struct ProposalReading {
     pub delay: [u8; 256],
 }
 
-// The same of a proposal file.
+// The numbers of a proposal file as read.
 #[repr(C)]
 pub struct ProposalNumbers {
     pub refusal: Refusal,

@@ -6,7 +6,6 @@ ghost use Rattle.files.specs.Files.{proposalOf, proposedEdgesRefusal};
 ghost use Rattle.records.specs.Columns.{zeros};
 ghost use Rattle.readings.specs.Working.{workingProposal, proposalFrom, proposalReading};
 use crate::ProposalNumbers;
-use crate::ProposalReading;
 use crate::clearing::clear_bytes;
 use files::Refusal;
 use files::proposal_frame_refusal;
@@ -71,23 +70,5 @@ pub fn read_proposal_into<'a>(
     ProposalNumbers {
         refusal,
         edges: header.edges,
-    }
-}
-
-// The same in one struct.
-pub fn read_proposal(bytes: &[u8], tasks: usize) -> ProposalReading
-    ensures { λ r. ⌜ r ≡ proposalReading tasks (now (bytes .entry)) ⌝ }
-{
-    let mut source: [u8; 256] = [0; 256];
-    let mut sink: [u8; 256] = [0; 256];
-    let mut delay: [u8; 256] = [0; 256];
-    let numbers = read_proposal_into(bytes, tasks, &mut source, &mut sink, &mut delay);
-    let refusal = numbers.refusal;
-    ProposalReading {
-        refusal,
-        edges: numbers.edges,
-        source,
-        sink,
-        delay,
     }
 }

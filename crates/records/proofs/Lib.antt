@@ -5,4 +5,3 @@ pub mod Parts
 pub mod Rows
 pub mod Edges
 pub mod Ordered
-mod Pairs

@@ -39,7 +39,7 @@ module _ (a e : ℕ) (f : ℕ → ℕ) (xs : List ℕ) (below : a ≤ e) (within
       = length-append (take a xs) (tabulate (e - a) f ++ drop e xs) in
       omega (arith, front-length)
 
-  pub part-before : (i : ℕ) → i < a → getD (withPart a e f xs) i 0 ≡ getD xs i 0
+  part-before : (i : ℕ) → i < a → getD (withPart a e f xs) i 0 ≡ getD xs i 0
   unfolding withPart
   part-before i l =
       List·getD-append (take a xs) (tabulate (e - a) f ++ drop e xs) 0 i (subst (λ (n : ℕ). i < n) (sym front-length) l) ∙ getD-take a xs i 0 l
@@ -50,7 +50,7 @@ module _ (a e : ℕ) (f : ℕ → ℕ) (xs : List ℕ) (below : a ≤ e) (within
       ap (λ (n : ℕ). getD (take a xs ++ (tabulate (e - a) f ++ drop e xs)) (n + j) 0) (sym front-length) ∙
       getD-append-add (take a xs) (tabulate (e - a) f ++ drop e xs) j 0
 
-  pub part-inside : (j : ℕ) → j < e - a → getD (withPart a e f xs) (a + j) 0 ≡ f j
+  part-inside : (j : ℕ) → j < e - a → getD (withPart a e f xs) (a + j) 0 ≡ f j
   part-inside j l =
       behind j ∙
       (List·getD-append (tabulate (e - a) f) (drop e xs) 0 j (subst (λ (n : ℕ). j < n) (sym (length-tabulate (e - a) f)) l) ∙ getD-tabulate (e - a) f 0 j l)
@@ -84,6 +84,10 @@ pub each-is : (n : ℕ) (h : ℕ → ℕ) (xs : List ℕ) → length xs ≡ n �
 each-is n h xs as-many each =
     ext-getD 0 xs (tabulate n h) (as-many ∙ sym (length-tabulate n h))
     (λ i l. let k : i < n = subst (λ (m : ℕ). i < m) as-many l in each i k ∙ sym (getD-tabulate n h 0 i k))
+
+-- a list filled with zeros place by place
+pub zeros-filled : (n : ℕ) → tabulate n (λ i. 0) ≡ zeros n
+zeros-filled n = sym (each-is n (λ i. 0) (zeros n) (zeros-length n) (λ i l. zeros-at n i))
 
 module _ (size n : ℕ) (f h : ℕ → ℕ) (fits : n ≤ size) (front : (v : ℕ) → v < n → f v ≡ h v) where
   within-zeros : n ≤ length (zeros size)

@@ -1,7 +1,7 @@
 -- Lists of numbers that hold tasks and edges, one number of each in each list, and what is written into them.
 use mathlib.Core.Path.{_≡_}
 use mathlib.Core.List.{List, [], _++_}
-use Prim.Native.Nat.{ℕ, zero, suc, _-_, _/_, _%_, _^_, _<_}
+use Prim.Native.Nat.{ℕ, zero, suc, _-_, _<_}
 use lib.ListN.{length, getD, take, drop, replicate}
 use Rattle.model.specs.Lists.{tabulate}
 use Rattle.model.specs.Tasks.{Task, Edge, noTask, noEdge}
@@ -42,10 +42,6 @@ edgesOf source sink delay = tabulate (length source) (heldEdge source sink delay
 -- an edge record as an edge
 unfoldable pub edgeOf : EdgeRecord → Edge
 edgeOf r = record { source = r .source; sink = r .sink; delay = r .delay }
-
--- only for contracts inside: the edge of an edge record's 20 bits as one number, source 6, sink 6, delay 8
-unfoldable pub edgeOfBits : ℕ → Edge
-edgeOfBits n = record { source = n / 2 ^ 14 % 2 ^ 6; sink = n / 2 ^ 8 % 2 ^ 6; delay = n % 2 ^ 8 }
 
 -- the list with f 0, f 1, .. in the places from a start up to an end, which is left out; places count from 0
 unfoldable pub withPart : ℕ → ℕ → (ℕ → ℕ) → List ℕ → List ℕ

@@ -1,28 +1,16 @@
 // Tasks and edges of a file, and processor edges, into lists of numbers: one list for each number of a task or of an edge.
 ghost use mathlib.Core.Path.{_≡_};
-ghost use mathlib.Core.Bool.{true};
 ghost use mathlib.Core.List.{List};
-ghost use Prim.Native.Nat.{_+_, _*_, _/_, _≤_, _<_};
-ghost use lib.ListN.{length, getD, take, replicate};
+ghost use Prim.Native.Nat.{_+_, _≤_};
+ghost use lib.ListN.{length, take, replicate};
 ghost use Rattle.model.specs.Lists.{tabulate};
 ghost use Rattle.model.specs.Tasks.{Task};
 ghost use Rattle.model.specs.Processors.{processorEdge};
-ghost use Rattle.bits.specs.Bits.{field};
-ghost use Rattle.layout.specs.Layout.{graphHeaderBits, recordBits, recordStart, taskAt, edgeAt};
-ghost use Rattle.records.specs.Columns.{withPart, ProcessorsOf, edgeOfBits};
+ghost use Rattle.layout.specs.Layout.{graphHeaderBits, recordStart, taskAt, edgeAt};
+ghost use Rattle.records.specs.Columns.{withPart, ProcessorsOf};
 ghost use Rattle.records.specs.Nexts.{FirstTasks, NextTasks};
 use layout::GRAPH_HEADER_BITS;
 use layout::RECORD_BITS;
-
-// Two records. From a byte's start on they are five bytes, and are read at once.
-const PAIR_BITS: usize = 2 * RECORD_BITS;
-
-// Whether two records or more are left, and the next two are five bytes that are all there.
-fn pair_at(bytes: &[u8], at: usize, left: usize) -> bool
-    ensures { λ r. ⌜ (r ≡ true → (at / 8 * 8 ≡ at) × (at / 8 + 4 < length (now (bytes .entry))) × (1 < left)) ⌝ }
-{
-    (at & 7 == 0) & (((at >> 3) + 4 < bytes.len()) & (left > 1))
-}
 
 // The tasks of a graph file, as many as the lists have room for.
 pub fn read_tasks<'a>(bytes: &[u8], processor: &'a mut [u8], time: &'a mut [u16])
@@ -31,84 +19,12 @@ pub fn read_tasks<'a>(bytes: &[u8], processor: &'a mut [u8], time: &'a mut [u16]
     ensures { λ _. ⌜ now (processor .exit) ≡ tabulate (length (now (processor .entry))) (λ v. taskAt (now (bytes .entry)) (recordStart graphHeaderBits v) .processor) ⌝ }
     ensures { λ _. ⌜ now (time .exit) ≡ tabulate (length (now (processor .entry))) (λ v. taskAt (now (bytes .entry)) (recordStart graphHeaderBits v) .time) ⌝ }
 {
-    let mut at = GRAPH_HEADER_BITS;
     let mut v = 0;
     while v < processor.len() {
-        if pair_at(bytes, at, processor.len() - v) {
-            let two = bits::five_within(bytes, at >> 3);
-            processor[v] = ((two >> 36) & 0xf) as u8;
-            time[v] = ((two >> 20) & 0xffff) as u16;
-            processor[v + 1] = ((two >> 16) & 0xf) as u8;
-            time[v + 1] = (two & 0xffff) as u16;
-            at += PAIR_BITS;
-            v += 2;
-        } else {
-            let task = layout::task_at(bytes, at);
-            processor[v] = task.processor;
-            time[v] = task.time;
-            at += RECORD_BITS;
-            v += 1;
-        }
-    }
-}
-
-// Pairs of edges that are read at once at most.
-const PAIRS: usize = 16;
-
-// Room for these edges.
-const BLOCK: usize = 2 * PAIRS;
-
-// How many pairs of edges to read at once from a bit position on, where so many edges are left: none if that is not a byte's start, or fewer than
-// two edges are left, or their bytes are not all there.
-fn block_at(bytes: &[u8], at: usize, left: usize) -> usize
-    ensures { λ r. ⌜ (r ≤ 16) × (2 * r ≤ left) ⌝ }
-    ensures { λ r. ⌜ (0 < r → (at / 8 * 8 ≡ at) × (at / 8 + 5 * r ≤ length (now (bytes .entry)))) ⌝ }
-{
-    if at & 7 != 0 {
-        return 0;
-    }
-    let mut pairs = left >> 1;
-    if pairs > PAIRS {
-        pairs = PAIRS;
-    }
-    if (at >> 3) + 5 * pairs > bytes.len() {
-        return 0;
-    }
-    pairs
-}
-
-// Pairs of edges from a byte on, five bytes each, to the front of a block: each edge as one number of 20 bits.
-fn fetch<'a>(bytes: &[u8], i: usize, pairs: usize, block: &'a mut [u32])
-    requires { ⌜ i + 5 * pairs ≤ length (now bytes) ⌝ }
-    requires { ⌜ 2 * pairs ≤ length (now block) ⌝ }
-    ensures { λ _. ⌜ take (2 * pairs) (now (block .exit)) ≡ tabulate (2 * pairs) (λ k. field (now (bytes .entry)) (recordStart (i * 8) k) recordBits) ⌝ }
-{
-    let mut k = 0;
-    while k < pairs {
-        let two = bits::five_within(bytes, i + 5 * k);
-        block[2 * k] = (two >> 20) as u32;
-        block[2 * k + 1] = (two & 0xfffff) as u32;
-        k += 1;
-    }
-}
-
-// The edges at the front of a block split into source, sink and delay. A loop of its own with shifts and masks alone: it is compiled to work on
-// many edges at once.
-fn split<'a>(block: &[u32], source: &'a mut [u8], sink: &'a mut [u8], delay: &'a mut [u8])
-    requires { ⌜ length (now source) ≤ length (now block) ⌝ }
-    requires { ⌜ length (now sink) ≡ length (now source) ⌝ }
-    requires { ⌜ length (now delay) ≡ length (now source) ⌝ }
-    ensures { λ _. ⌜ now (source .exit) ≡ tabulate (length (now (source .entry))) (λ k. edgeOfBits (getD (now (block .entry)) k 0) .source) ⌝ }
-    ensures { λ _. ⌜ now (sink .exit) ≡ tabulate (length (now (source .entry))) (λ k. edgeOfBits (getD (now (block .entry)) k 0) .sink) ⌝ }
-    ensures { λ _. ⌜ now (delay .exit) ≡ tabulate (length (now (source .entry))) (λ k. edgeOfBits (getD (now (block .entry)) k 0) .delay) ⌝ }
-{
-    let mut k = 0;
-    while k < source.len() {
-        let one = block[k];
-        source[k] = ((one >> 14) & 0x3f) as u8;
-        sink[k] = ((one >> 8) & 0x3f) as u8;
-        delay[k] = (one & 0xff) as u8;
-        k += 1;
+        let task = layout::task_at(bytes, GRAPH_HEADER_BITS + RECORD_BITS * v);
+        processor[v] = task.processor;
+        time[v] = task.time;
+        v += 1;
     }
 }
 
@@ -128,30 +44,13 @@ pub fn read_edges<'a>(
     ensures { λ _. ⌜ now (sink .exit) ≡ tabulate (length (now (source .entry))) (λ j. edgeAt (now (bytes .entry)) (recordStart position j) .sink) ⌝ }
     ensures { λ _. ⌜ now (delay .exit) ≡ tabulate (length (now (source .entry))) (λ j. edgeAt (now (bytes .entry)) (recordStart position j) .delay) ⌝ }
 {
-    let mut block: [u32; BLOCK] = [0; BLOCK];
-    let mut at = position;
     let mut j = 0;
     while j < source.len() {
-        let pairs = block_at(bytes, at, source.len() - j);
-        if pairs > 0 {
-            fetch(bytes, at >> 3, pairs, &mut block);
-            let to = j + 2 * pairs;
-            split(
-                &block,
-                &mut source[j..to],
-                &mut sink[j..to],
-                &mut delay[j..to],
-            );
-            at += PAIR_BITS * pairs;
-            j = to;
-        } else {
-            let edge = layout::edge_at(bytes, at);
-            source[j] = edge.source;
-            sink[j] = edge.sink;
-            delay[j] = edge.delay;
-            at += RECORD_BITS;
-            j += 1;
-        }
+        let edge = layout::edge_at(bytes, position + RECORD_BITS * j);
+        source[j] = edge.source;
+        sink[j] = edge.sink;
+        delay[j] = edge.delay;
+        j += 1;
     }
 }
 

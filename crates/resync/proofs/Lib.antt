@@ -1,6 +1,5 @@
 -- The proofs that other crates may cite.
 pub mod Checked
-pub mod Kept
 pub mod Results
 pub mod Given
 pub mod Written

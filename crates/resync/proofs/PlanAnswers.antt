@@ -9,7 +9,6 @@ use native.Mathlib.Omega.{arith}
 use lib.ListN.{length, take}
 use Rattle.model.specs.Lists.{tabulate}
 use Rattle.model.specs.Tasks.{Edge}
-use Rattle.model.specs.Compute.{latencyOf}
 use Rattle.model.specs.Plan.{planOf, planLatency}
 use Rattle.layout.specs.declared.EdgeRecord.{EdgeRecord}
 use Rattle.records.specs.Columns.{edgesOf}
@@ -33,7 +32,7 @@ use Rattle.resync.specs.declared.PlanAnswer.{PlanAnswer}
 use Rattle.resync.specs.Calls.{outcome, roomRefusal}
 use Rattle.resync.specs.Plan.{planRefusal, planAnswerOf, planAfter, plannedEdges}
 use Rattle.resync.proofs.Planned.{plan-few}
-use Rattle.resync.proofs.Checked.{room-there, same-room, refusal-given, latency-given, accepted, read-fronts}
+use Rattle.resync.proofs.Checked.{room-there, same-room, refusal-given, accepted, read-fronts}
 
 -- ── What is decided ──
 
@@ -132,10 +131,8 @@ module _ (s : List ℕ) (room : ℕ) where
       pub read-lent :
           Lent (graphOf s) (front (r .reading .tasks + r .reading .edges) (r .reading .source))
           (front (r .reading .tasks + r .reading .edges) (r .reading .sink)) (front (r .reading .tasks + r .reading .edges) (r .reading .delay))
-          (front (r .reading .tasks) (r .reading .time)) (r .reading .output) (r .reading .bound) (r .latency)
-      read-lent =
-          lent-reading (accepted s is before .1) (read-fronts s is before)
-          (latency-given s is ∙ if-passed (acceptanceRefusal s .number) (latencyOf (graphOf s)) 0 (passed-before passed .0))
+          (front (r .reading .tasks) (r .reading .time)) (r .reading .output) (r .reading .bound)
+      read-lent = lent-reading (accepted s is before .1) (read-fronts s is before)
 
       module _ {w : Walked} {source sink delay : List ℕ} (found : Followed (graphOf s) w source sink delay) where
         pub answer-planned :

@@ -1,7 +1,7 @@
 // The calls on a graph. None asks anything of its caller; a refused one leaves the lent list as it was.
 ghost use mathlib.Core.Path.{_≡_};
 ghost use mathlib.Core.List.{[], _∷_};
-ghost use Prim.Native.Nat.{_*_, _≤_};
+ghost use Prim.Native.Nat.{_≤_};
 ghost use lib.ListN.{length};
 ghost use Rattle.model.specs.Graph.{Graph};
 ghost use Rattle.model.specs.Compute.{isRedundant};
@@ -14,19 +14,14 @@ ghost use Rattle.resync.specs.Calls.{outcome, roomRefusal, turnsRefusal,
 use crate::GraphFigures;
 use crate::Outcome;
 use crate::RedundantSet;
+use files::PASSED;
 use files::Refusal;
 use marks::Marks;
 use marks::Places;
 use redundancy::redundant_marks;
 use schedule::accept_into;
 use starts::turns_into;
-use strongest::keep_strongest;
 use tables::least_table;
-
-const PASSED: Refusal = Refusal {
-    number: 0,
-    place: 0,
-};
 
 const SHORT_LIST: Refusal = Refusal {
     number: 16,
@@ -37,9 +32,6 @@ const TURNS_OUTSIDE: Refusal = Refusal {
     number: 17,
     place: 0,
 };
-
-// So many tasks that a table of 256 entries has room for the delays between them.
-const FEW: usize = 16;
 
 // No mark set.
 fn no_marks() -> Marks
@@ -162,25 +154,7 @@ pub fn least_delays(graph: &[u8], table: &mut [u16]) -> Outcome
     told(refusal)
 }
 
-// The marks of the redundant edges, by a table to write into.
-fn marks_by<'a>(
-    source: &'a [u8],
-    sink: &'a [u8],
-    delay: &'a [u8],
-    tasks: usize,
-    sequence: &'a [u8],
-    table: &mut [u16],
-) -> Marks
-    requires { ⌜ (length (now sink) ≡ length (now source)) × (length (now delay) ≡ length (now source)) ⌝ }
-    requires { ⌜ (tasks ≤ 64) × (length (now source) ≤ 320) × (tasks * tasks ≤ length (now table)) × (length (now sequence) ≤ 64) ⌝ }
-    requires { ⌜ Fit tasks (edgesOf (now source) (now sink) (now delay)) ⌝ }
-    ensures { λ r. ⌜ ((g : Graph) → HeldGraph g tasks (edgesOf (now (source .entry)) (now (sink .entry)) (now (delay .entry))) → r ≡ marksOf (isRedundant g)) ⌝ }
-{
-    least_table(source, sink, delay, tasks, sequence, table);
-    redundant_marks(source, sink, delay, &table[0..tasks * tasks], tasks)
-}
-
-// The same by a table no larger than so many tasks ask for.
+// The marks of the redundant edges, by the table of least delays.
 fn redundant_edges<'a>(
     source: &'a [u8],
     sink: &'a [u8],
@@ -193,12 +167,9 @@ fn redundant_edges<'a>(
     requires { ⌜ Fit tasks (edgesOf (now source) (now sink) (now delay)) ⌝ }
     ensures { λ r. ⌜ ((g : Graph) → HeldGraph g tasks (edgesOf (now (source .entry)) (now (sink .entry)) (now (delay .entry))) → r ≡ marksOf (isRedundant g)) ⌝ }
 {
-    if tasks <= FEW {
-        let mut small: [u16; 256] = [0; 256];
-        return marks_by(source, sink, delay, tasks, sequence, &mut small);
-    }
     let mut table: [u16; 4096] = [0; 4096];
-    marks_by(source, sink, delay, tasks, sequence, &mut table)
+    least_table(source, sink, delay, tasks, sequence, &mut table);
+    redundant_marks(source, sink, delay, &table[0..tasks * tasks], tasks)
 }
 
 // The marks of the redundant edges, edge 1 the most significant bit of the first word, and how many are set.
@@ -286,11 +257,10 @@ pub fn timetable(graph: &[u8], turns: usize, starts: &mut [u32]) -> Outcome
         return told(refusal);
     }
     let end = tasks + numbers.edges as usize;
-    let kept = keep_strongest(&processor, tasks, end, &mut source, &mut sink, &mut delay);
     turns_into(
-        &source[0..kept],
-        &sink[0..kept],
-        &delay[0..kept],
+        &source[0..end],
+        &sink[0..end],
+        &delay[0..end],
         &time[0..tasks],
         turns,
         starts,

@@ -68,7 +68,6 @@ fn decide(graph: &[u8], room: usize) -> Decided
         &sequence[0..tasks],
         output,
         numbers.bound,
-        accepted.latency,
         &mut to_source,
         &mut to_sink,
         &mut to_delay,

@@ -3,8 +3,7 @@ use mathlib.Core.Path.{_≡_, refl, sym, ap, _∙_, subst}
 use mathlib.Core.Bool.{Bool, true, false, true≢false, not}
 use mathlib.Core.List.{List}
 use mathlib.Core.Option.{none}
-use Prim.Native.Nat.{ℕ, suc, _+_, _*_, _≤_, _<_}
-use native.Mathlib.Nat.{add-zero}
+use Prim.Native.Nat.{ℕ, suc, _+_, _≤_, _<_}
 use native.Mathlib.Numerals.{add-one}
 use native.Mathlib.Omega.{arith}
 use lib.ListN.{length, getD}
@@ -21,19 +20,20 @@ use Rattle.records.proofs.Fill.{getD-tabulate}
 use Rattle.results.specs.Fronts.{HeldFront}
 use Rattle.latest.specs.Latest.{earliestEnds}
 use Rattle.prepared.specs.Ready.{Ready}
+use Rattle.present.specs.declared.Order.{Order}
 use Rattle.present.specs.Present.{Staged, Ordered, Timed, Adding}
 use Rattle.present.proofs.Ordering.{timed-sizes}
 use Rattle.steps.specs.declared.StepAnswer.{StepAnswer}
 use Rattle.steps.specs.Steps.{Here, Taken, Stepped, Begun, Followed}
 
 -- where the loop stands: at a stage of the plan, with its times, and with its delays and counts if it goes on; at the last one if it does not
-pub record Standing (g : Graph) (all steps many : ℕ) (going : Bool) (source sink delay from to counts order-source order-sink order-delay order-sinks order-sources end latest : List ℕ) : Type 0 where
+pub record Standing (g : Graph) (steps many : ℕ) (going : Bool) (time source sink delay from to counts : List ℕ) (o : Order) (end latest : List ℕ) : Type 0 where
   pub list : List Edge
   pub reached : Stage g steps list
   pub held : HeldFront 256 many source sink delay list
   pub ended : going ≡ false → step g list ≡ none
   pub ready : going ≡ true → Ready g list from to counts
-  pub ordered : Ordered g list all order-source order-sink order-delay order-sinks order-sources
+  pub ordered : Ordered g list time o
   pub timed : Timed g list end latest
 
 -- what is left to do: each step lowers the number of edges, and the last one ends
@@ -41,34 +41,26 @@ abbrev pub left : ℕ → Bool → ℕ
 left many going = many + counted going 1
 
 module _
-    {g : Graph} {time : List ℕ} {output bound edges first : ℕ}
-    {source₀ sink₀ delay₀ from₀ to₀ counts₀ order-source₀ order-sink₀ order-delay₀ order-sinks₀ order-sources₀ end₀ latest₀ : List ℕ}
-    (begun : Begun g time output bound edges first source₀ sink₀ delay₀ from₀ to₀ counts₀ order-source₀ order-sink₀ order-delay₀ order-sinks₀ order-sources₀ end₀ latest₀)
+    {g : Graph} {time : List ℕ} {first : ℕ} {source₀ sink₀ delay₀ from₀ to₀ counts₀ : List ℕ} {o₀ : Order} {end₀ latest₀ : List ℕ}
+    (begun : Begun g time first source₀ sink₀ delay₀ from₀ to₀ counts₀ o₀ end₀ latest₀)
   where
     accepted : AcceptedGraph g
     accepted = begun .here .staged .graph
 
+    abbrev output : ℕ
+    output = o₀ .output
+
     pub output-small : output < 64
-    output-small = omega (arith, begun .clocked .output-is, accepted .formed .output-below, accepted .formed .at-most-64)
+    output-small = omega (arith, begun .ordered .clocked .output-is, accepted .formed .output-below, accepted .formed .at-most-64)
 
-    -- the delays are copied whole
-    pub delays-there : (length time * 64 ≤ length from₀) × (length time * 64 ≤ length to₀) × (length time * 64 ≤ 4096)
-    delays-there =
-        let many = begun .clocked .as-many in (
-          omega (arith, many, begun .here .ready .from-size),
-          omega (arith, many, begun .here .ready .to-size),
-          omega (arith, many, accepted .formed .at-most-64),
-        )
-
-    pub standing-first :
-        Standing g (edges + 0) 0 first true source₀ sink₀ delay₀ from₀ to₀ counts₀ order-source₀ order-sink₀ order-delay₀ order-sinks₀ order-sources₀ end₀ latest₀
+    pub standing-first : Standing g 0 first true time source₀ sink₀ delay₀ from₀ to₀ counts₀ o₀ end₀ latest₀
     standing-first = record {
       list = firstStage g;
       reached = at-first refl refl;
       held = begun .here .held;
       ended = λ q. absurd (true≢false q);
       ready = λ q. begun .here .ready;
-      ordered = subst (λ (n : ℕ). Ordered g (firstStage g) n order-source₀ order-sink₀ order-delay₀ order-sinks₀ order-sources₀) (sym (add-zero edges)) (begun .ordered);
+      ordered = begun .ordered;
       timed = begun .here .timed;
     }
 
@@ -85,12 +77,12 @@ module _
         omega (arith, shrunk, fewer, accepted .formed .syncs-formed .few)
 
     module _
-        {steps many : ℕ} {going : Bool} {source sink delay from to counts order-source order-sink order-delay order-sinks order-sources end latest : List ℕ}
-        (stands : Standing g (edges + steps) steps many going source sink delay from to counts order-source order-sink order-delay order-sinks order-sources end latest)
+        {steps many : ℕ} {going : Bool} {source sink delay from to counts : List ℕ} {o : Order} {end latest : List ℕ}
+        (stands : Standing g steps many going time source sink delay from to counts o end latest)
       where
         pub here-now : going ≡ true → Here g (stands .list) (length time) many source sink delay from to counts end latest
         here-now goes = record {
-          as-many = begun .clocked .as-many;
+          as-many = begun .ordered .clocked .as-many;
           staged = staged-at (stands .reached);
           held = stands .held;
           ready = stands .ready goes;
@@ -101,20 +93,13 @@ module _
         steps-small = steps-few (stands .reached)
 
         pub lists-long :
-            (length source ≡ 256) × (length sink ≡ 256) × (length delay ≡ 256) × (length order-source ≡ 576) × (length order-sink ≡ 576) ×
-            (length order-delay ≡ 576) × (length order-sinks ≡ 64) × (length order-sources ≡ 64) × (length end ≡ count g) × (length latest ≡ count g)
+            (length source ≡ 256) × (length sink ≡ 256) × (length delay ≡ 256) × (length end ≡ count g) × (length latest ≡ count g)
         lists-long =
             let front = stands .held in
-            let lists = stands .ordered .front in
             let rows = timed-sizes (stands .timed) in (
               front .sources .room,
               front .sinks .room,
               front .delays .room,
-              lists .sources .room,
-              lists .sinks .room,
-              lists .delays .room,
-              stands .ordered .sets .room,
-              stands .ordered .as-many-sources,
               rows .0,
               rows .1,
             )
@@ -136,42 +121,31 @@ module _
               unfolding next
               next-stage = stage-next g accepted (stands .reached) (taken-now .found)
 
-              pub room-left : edges ≤ 320 → edges + steps < 576
-              room-left few = omega (arith, few, steps-few next-stage)
-
-              pub steps-left : steps < 256
-              steps-left = omega (arith, steps-few next-stage)
-
               pub adding :
-                  Adding g (stands .list) (r .source) (r .sink) time output bound (edges + steps) order-source order-sink order-delay order-sinks order-sources end latest
+                  Adding g (stands .list) (r .source) (r .sink) time o end latest
               unfolding next
               adding = record {
                 now-staged = staged-at (stands .reached);
                 next-staged = staged-at next-stage;
                 pair = taken-now .candidate;
-                clocked = begun .clocked;
                 ordered = stands .ordered;
                 timed = stands .timed;
               }
 
               pub standing-next :
-                  {order-source′ order-sink′ order-delay′ order-sinks′ order-sources′ end′ latest′ : List ℕ} →
-                  Ordered g (replaced g (stands .list) (r .source) (r .sink)) (edges + steps + 1) order-source′ order-sink′ order-delay′ order-sinks′ order-sources′ →
+                  {o′ : Order} {end′ latest′ : List ℕ} → Ordered g (replaced g (stands .list) (r .source) (r .sink)) time o′ →
                   Timed g (replaced g (stands .list) (r .source) (r .sink)) end′ latest′ →
-                  Standing g (edges + (steps + 1)) (steps + 1) (r .count) (r .taken) source′ sink′ delay′ from′ to′ counts′ order-source′ order-sink′
-                  order-delay′ order-sinks′ order-sources′ end′ latest′
+                  Standing g (steps + 1) (r .count) (r .taken) time source′ sink′ delay′ from′ to′ counts′ o′ end′ latest′
               unfolding next
-              standing-next {order-source′} {order-sink′} {order-delay′} {order-sinks′} {order-sources′} ordered timed =
-                  let more : edges + steps + 1 ≡ edges + (steps + 1) = omega arith in
-                  record {
-                    list = next;
-                    reached = subst (λ (k : ℕ). Stage g k next) (sym (add-one steps)) next-stage;
-                    held = taken-now .held;
-                    ended = λ q. absurd (true≢false (sym taken ∙ q));
-                    ready = λ q. taken-now .ready;
-                    ordered = subst (λ (n : ℕ). Ordered g next n order-source′ order-sink′ order-delay′ order-sinks′ order-sources′) more ordered;
-                    timed = timed;
-                  }
+              standing-next ordered timed = record {
+                list = next;
+                reached = subst (λ (k : ℕ). Stage g k next) (sym (add-one steps)) next-stage;
+                held = taken-now .held;
+                ended = λ q. absurd (true≢false (sym taken ∙ q));
+                ready = λ q. taken-now .ready;
+                ordered = ordered;
+                timed = timed;
+              }
 
               pub left-next : left (r .count) (r .taken) < left many true
               unfolding counted next
@@ -184,7 +158,7 @@ module _
 
             module _ (left-out : r .taken ≡ false) where
               pub standing-last :
-                  Standing g (edges + steps) steps (r .count) (r .taken) source′ sink′ delay′ from′ to′ counts′ order-source order-sink order-delay order-sinks order-sources end latest
+                  Standing g steps (r .count) (r .taken) time source′ sink′ delay′ from′ to′ counts′ o end latest
               standing-last =
                   let last = stepped .if-not left-out in
                   record {
@@ -210,13 +184,13 @@ module _
         latency-is : getD end output 0 ≡ latencyOf (result g (stands .list))
         unfolding earliestEnds latencyOf presentEdges timeOf result
         latency-is =
-            let there : output < count g = omega (arith, begun .clocked .output-is, accepted .formed .output-below) in
+            let there : output < count g = omega (arith, begun .ordered .clocked .output-is, accepted .formed .output-below) in
             ap (λ (xs : List ℕ). getD xs output 0) (stands .timed .end-is) ∙
             (getD-tabulate (count g) (latency (count g) (presentEdges g (stands .list)) (timeOf g)) 0 output there ∙
-            ap (latency (count g) (presentEdges g (stands .list)) (timeOf g)) (begun .clocked .output-is))
+            ap (latency (count g) (presentEdges g (stands .list)) (timeOf g)) (begun .ordered .clocked .output-is))
 
         pub output-there : output < length end
-        output-there = omega (arith, begun .clocked .output-is, accepted .formed .output-below, timed-sizes (stands .timed) .0)
+        output-there = omega (arith, begun .ordered .clocked .output-is, accepted .formed .output-below, timed-sizes (stands .timed) .0)
 
         pub followed : going ≡ false → Followed g (record { count = many; steps = steps; latency = getD end output 0 }) source sink delay
         unfolding planLatency

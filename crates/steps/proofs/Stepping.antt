@@ -15,8 +15,8 @@ use Rattle.model.specs.Graph.{Graph, count}
 use Rattle.model.specs.Plan.{withPair, Candidate, replaced, step}
 use Rattle.records.specs.Columns.{edgesOf, at}
 use Rattle.counts.specs.Counts.{subsumesBy, CountsOf}
-use Rattle.updates.specs.Updates.{PairAdded}
-use Rattle.updates.proofs.Pairs.{keep-equal}
+use Rattle.counts.proofs.Totals.{keep-equal}
+use Rattle.updates.specs.Updates.{RowsJoined}
 use Rattle.candidates.specs.Candidates.{worthIn, BestPair}
 use Rattle.results.specs.Fronts.{HeldFront}
 use Rattle.results.proofs.Fronts.{held-edges}
@@ -99,7 +99,7 @@ module _
         candidate =
             best-candidate g list (here .staged .graph) (here .staged .formed) (here .staged .accepted) (here .ready) (here .timed) best-is two
 
-        module _ {from′ to′ : List ℕ} (added : PairAdded tasks a b from to from′ to′) where
+        module _ {from′ to′ : List ℕ} (rows : RowsJoined a b tasks from from′) (columns : RowsJoined b a tasks to to′) where
           test : Edge → Bool
           test e = not (subsumesBy from to a b e)
 
@@ -114,29 +114,23 @@ module _
               let ly = list-ends e m .1 in
               let la = best .source-below two in
               let lb = best .sink-below two in
-              let lx′ = here .staged .formed .ends e m .0 in
-              let ly′ = here .staged .formed .ends e m .1 in
               let before : at from′ (e .source * 64 + a) ≡ at from (e .source * 64 + a)
-              = omega (
-                arith,
-                added .from-is (e .source) a lx (omega (arith, la, few)),
-                here .ready .from-is (e .source) a lx′ (best-is .source-below two),
-                here .ready .to-is (e .source) a lx′ (best-is .source-below two),
-              ) in
+              = omega (arith, rows .inside (e .source) a lx (omega (arith, la, few))) in
               let after : at to′ (e .sink * 64 + b) ≡ at to (e .sink * 64 + b)
-              = omega (
-                arith,
-                added .to-is (e .sink) b ly (omega (arith, lb, few)),
-                here .ready .to-is b (e .sink) (best-is .sink-below two) ly′,
-                here .ready .from-is b (e .sink) (best-is .sink-below two) ly′,
-              ) in
+              = omega (arith, columns .inside (e .sink) b ly (omega (arith, lb, few))) in
               λ i. not (leb (before i + after i) (e .delay))
 
           same-left : keep test′ list ≡ keep test list
           same-left = keep-equal test′ test list same-test
 
           pub replace-sizes : (tasks ≤ 64) × (tasks * 64 ≤ length from′) × (tasks * 64 ≤ length to′) × (a < tasks) × (b < tasks)
-          replace-sizes = (few, added .from-size, added .to-size, best .source-below two, best .sink-below two)
+          replace-sizes = (
+            few,
+            omega (arith, rows .size, delays-long .0),
+            omega (arith, columns .size, delays-long .1),
+            best .source-below two,
+            best .sink-below two,
+          )
 
           pub replace-given : (list′ : List Edge) × HeldFront 256 many source sink delay list′ × Ends tasks list′ × (length (keep test′ list′) < 256)
           unfolding test
@@ -169,4 +163,5 @@ module _
               let counted =
               subst (λ (n : ℕ). CountsOf n from′ to′ (withPair (keep (λ e. not (subsumesBy from to a b e)) list) a b) counts′) (here .as-many) among in
               ready-next g list (here .staged .graph) (here .staged .formed) (here .staged .accepted) (here .ready) (here .timed) best-is two
-              (subst (λ (n : ℕ). PairAdded n a b from to from′ to′) (here .as-many) added) counted
+              (subst (λ (n : ℕ). RowsJoined a b n from from′) (here .as-many) rows) (subst (λ (n : ℕ). RowsJoined b a n to to′) (here .as-many) columns)
+              counted

@@ -1,6 +1,6 @@
 -- What a pair of tasks is worth by numbers in lists is what it is worth in the plan: a delay is 16,383 exactly where there is no path, and a
 -- pair is in time exactly if its source ends by the latest start of its sink. The lists of one stage, with a pair added, are those of the next.
-use mathlib.Core.Path.{_≡_, refl, sym, ap, _∙_, subst}
+use mathlib.Core.Path.{_≡_, sym, ap, _∙_, subst}
 use mathlib.Core.Logic.{_⊎_, inl, inr, _≢_}
 use mathlib.Core.Bool.{Bool, true, false, not, _&&_}
 use mathlib.Core.List.{List, []}
@@ -18,7 +18,7 @@ use Rattle.model.specs.Paths.{Path, Least, smallest, no-path, stop, ZeroWalk, t
 use Rattle.model.specs.Compute.{atMost, lesser, plus, latency, latencyOf}
 use Rattle.model.specs.Proposals.{result, AcceptedGraph, AcceptedProposal}
 use Rattle.model.specs.Theorems.{Decides, OffCycles}
-use Rattle.model.specs.Plan.{presentEdges, withPair, Candidate, ifSame, counting, subsumes, gain, isCandidate, replaced, worth, step}
+use Rattle.model.specs.Plan.{presentEdges, withPair, Candidate, ifSame, counting, subsumes, gain, replaced, worth, step}
 use Rattle.model.proofs.Basics.{cases, is-true, is-false, and-left, and-right, and-both, order}
 use Rattle.model.proofs.Tests.{decides-iff, decides-true, decides-yes, decides-no, eqb-decides}
 use Rattle.model.proofs.Least.{least-delay}
@@ -35,8 +35,8 @@ use Rattle.delays.specs.Delays.{Fit}
 use Rattle.starts.proofs.Limits.{turn-fits}
 use Rattle.latest.specs.Latest.{earliestEnds, InTimeFrom}
 use Rattle.counts.specs.Counts.{subsumesBy, CountsOf}
-use Rattle.updates.specs.Updates.{PairAdded}
-use Rattle.updates.proofs.Pairs.{keep-equal}
+use Rattle.counts.proofs.Totals.{keep-equal}
+use Rattle.updates.specs.Updates.{RowsJoined}
 use Rattle.candidates.specs.Candidates.{worthIn, BestPair}
 use Rattle.verdicts.proofs.Tested.{result-fit}
 use Rattle.prepared.specs.Ready.{cut, Ready}
@@ -132,36 +132,11 @@ module _ (g : Graph) (list : List Edge) (graph : AcceptedGraph g) (formed : Well
         (keep-equal (λ e. not (subsumesBy from to a b e)) (λ e. not (subsumes (count g) (presentEdges g list) a b e)) list
         (λ e m. ap not (subsumes-by a b la lb e m)))
 
-    -- ── Without a look at times ──
-
     gain-by : (a b : ℕ) → a < count g → b < count g → at counts (a * 64 + b) ≡ gain g list a b
     unfolding gain
     gain-by a b la lb =
         ready .counts-are .each a b la (omega (arith, lb, graph .formed .at-most-64)) ∙
         ap length (keep-equal (subsumesBy from to a b) (subsumes (count g) (presentEdges g list) a b) list (subsumes-by a b la lb))
-
-    -- no path leads back along a candidate
-    open-back : (a b : ℕ) → a < count g → b < count g → Candidate g list a b → at to (a * 64 + b) ≡ 16383
-    unfolding counting ifSame cut
-    open-back a b la lb c =
-        ready .to-is b a lb la ∙ go (eqb b a) (eqb-decides b a) (least-delay (count g) (presentEdges g list) (present-fit .ends) b a)
-      where
-        go : (same : Bool) → Decides same (b ≡ a) → {o : Option ℕ} → Least (presentEdges g list) b a o → cut (ifSame same o) ≡ 16383
-        go true same l = absurd (candidate-apart g list c (same .if-true tt))
-        go false same (smallest {d = d} path below) = absurd (c .no-path-back d path)
-        go false same (no-path none-back) = refl
-
-    -- where no pair without a path back subsumes two edges, there is no step
-    pub few-none :
-        ((a b : ℕ) → a < count g → b < 64 → at to (a * 64 + b) ≡ 16383 → at counts (a * 64 + b) < 2) → step g list ≡ none
-    unfolding worth counted
-    few-none few = step-none g list (λ a b la lb. go a b la lb (isCandidate g list a b) (candidate-is g list off a b la lb))
-      where
-        go : (a b : ℕ) → a < count g → b < count g → (t : Bool) → Decides t (Candidate g list a b) → counted t (gain g list a b) < 2
-        go a b la lb true decides =
-            let one = few a b la (omega (arith, lb, graph .formed .at-most-64)) (open-back a b la lb (decides .if-true tt)) in
-            omega (arith, one, gain-by a b la lb)
-        go a b la lb false decides = omega arith
 
   module _ {from to counts end latest : List ℕ} (ready : Ready g list from to counts) (timed : Timed g list end latest) where
     end-at : (a : ℕ) → a < count g → at end a ≡ endOf a
@@ -310,21 +285,21 @@ module _ (g : Graph) (list : List Edge) (graph : AcceptedGraph g) (formed : Well
 
       -- the lists with the pair added are those of the next stage
       pub ready-next :
-          {from′ to′ counts′ : List ℕ} → 2 ≤ m → PairAdded (count g) a b from to from′ to′ →
+          {from′ to′ counts′ : List ℕ} → 2 ≤ m → RowsJoined a b (count g) from from′ → RowsJoined b a (count g) to to′ →
           CountsOf (count g) from′ to′ (withPair (keep (λ e. not (subsumesBy from to a b e)) list) a b) counts′ →
           Ready g (replaced g list a b) from′ to′ counts′
-      ready-next {from′} {to′} {counts′} two added counted-next =
+      ready-next {from′} {to′} {counts′} two rows columns counted-next =
           record {
-            from-size = added .from-size;
-            to-size = added .to-size;
-            from-small = added .from-small;
-            to-small = added .to-small;
+            from-size = omega (arith, rows .size, ready .from-size);
+            to-size = omega (arith, columns .size, ready .to-size);
+            from-small = rows .small;
+            to-small = columns .small;
             from-is = λ x y lx ly.
-                added .from-is x y lx (wide y ly) ∙
-                ((λ i. min (ready .from-is x y lx ly i) (ready .to-is x a lx la i + ready .from-is b y lb ly i)) ∙ next x y lx ly);
+                rows .inside x y lx (wide y ly) ∙
+                ((λ i. min (ready .from-is x y lx ly i) (ready .from-is x a lx la i + ready .from-is b y lb ly i)) ∙ next x y lx ly);
             to-is = λ x y lx ly.
-                added .to-is y x ly (wide x lx) ∙
-                ((λ i. min (ready .to-is x y lx ly i) (ready .from-is b y lb ly i + ready .to-is x a lx la i)) ∙
+                columns .inside y x ly (wide x lx) ∙
+                ((λ i. min (ready .to-is x y lx ly i) (ready .to-is b y lb ly i + ready .to-is x a lx la i)) ∙
                 (ap (λ (s : ℕ). min (cut (delay x y)) s) (add-comm (cut (delay b y)) (cut (delay x a))) ∙ next x y lx ly));
             counts-are = subst (λ (es : List Edge). CountsOf (count g) from′ to′ es counts′) (replaced-by ready a b la lb) counted-next;
           }

@@ -9,7 +9,8 @@ use Rattle.model.specs.Graph.{Graph, count}
 use Rattle.model.specs.Plan.{replaced, Candidate, firstStage, step, planOf, planLatency}
 use Rattle.results.specs.Fronts.{HeldFront}
 use Rattle.prepared.specs.Ready.{Ready}
-use Rattle.present.specs.Present.{Staged, Clocked, Ordered, Timed}
+use Rattle.present.specs.declared.Order.{Order}
+use Rattle.present.specs.Present.{Staged, Ordered, Timed}
 use Rattle.steps.specs.declared.StepAnswer.{StepAnswer}
 use Rattle.steps.specs.declared.Walked.{Walked}
 
@@ -33,11 +34,10 @@ pub record Stepped (g : Graph) (list : List Edge) (r : StepAnswer) (source sink 
   pub if-taken : r .taken ≡ true → Taken g list r source sink delay from to counts
   pub if-not : r .taken ≡ false → (step g list ≡ none) × HeldFront 256 (r .count) source sink delay list
 
--- what all steps start from: the first stage, and edges that order the tasks as its present graph does, in lists and sets
-pub record Begun (g : Graph) (time : List ℕ) (output bound all many : ℕ) (source sink delay from to counts order-source order-sink order-delay order-sinks order-sources end latest : List ℕ) : Type 0 where
-  pub clocked : Clocked g time output bound
+-- what all steps start from: the first stage, and sets of edges that order the tasks as its present graph does
+pub record Begun (g : Graph) (time : List ℕ) (many : ℕ) (source sink delay from to counts : List ℕ) (o : Order) (end latest : List ℕ) : Type 0 where
   pub here : Here g (firstStage g) (count g) many source sink delay from to counts end latest
-  pub ordered : Ordered g (firstStage g) all order-source order-sink order-delay order-sinks order-sources
+  pub ordered : Ordered g (firstStage g) time o
 
 -- what they lead to: the plan
 pub record Followed (g : Graph) (r : Walked) (source sink delay : List ℕ) : Type 0 where

@@ -1,20 +1,14 @@
 // The steps of the plan from stage to stage: in each the best candidate is added, and what it subsumes is dropped, until no candidate subsumes two edges.
 // Least delays, how many edges each pair of tasks subsumes, and the times of the first turn are kept from step to step.
 ghost use mathlib.Core.List.{List};
-ghost use Prim.Native.Nat.{_*_, _≤_};
-ghost use lib.ListN.{length};
 ghost use Rattle.model.specs.Tasks.{Edge};
 ghost use Rattle.model.specs.Graph.{Graph};
-ghost use Rattle.updates.specs.Updates.{Fronts};
 ghost use Rattle.steps.specs.Steps.{Here, Stepped, Begun, Followed};
 use candidates::best_pair;
+use counts::add_pair;
+use present::Order;
 use present::next_times;
 use stages::replace;
-use updates::add_pair;
-use updates::copy;
-
-// Places of a row of delays, for as many tasks as there can be.
-const WIDTH: usize = 64;
 
 // What a step gives: whether a candidate was taken, which one, and how many edges the stage has after it.
 pub struct StepAnswer {
@@ -32,7 +26,6 @@ pub struct Walked {
 }
 
 // One step from a stage of an accepted graph, by its delays, counts and times; stage, delays and counts are the next one's then, if a candidate was taken.
-// Two more lists hold the same delays, before the step and after it.
 pub fn step<'a, 'b>(
     tasks: usize,
     count: usize,
@@ -42,16 +35,11 @@ pub fn step<'a, 'b>(
     from: &'b mut [u16],
     to: &'b mut [u16],
     counts: &'b mut [u16],
-    old_from: &'b mut [u16],
-    old_to: &'b mut [u16],
     end: &'a [u32],
     latest: &'a [u32],
 ) -> StepAnswer
-    requires { ⌜ (tasks * 64 ≤ length (now «old_from»)) × (tasks * 64 ≤ length (now «old_to»)) ⌝ }
-    requires { ⌜ Fronts (tasks * 64) (now from) (now «old_from») × Fronts (tasks * 64) (now to) (now «old_to») ⌝ }
     requires { ⌜ ((g : Graph) × (list : List Edge) × Here g list tasks count (now source) (now sink) (now delay) (now from) (now to) (now counts) (now end) (now latest)) ⌝ }
-    ensures stepped { λ r. ⌜ ((g : Graph) (list : List Edge) → Here g list tasks count (now (source .entry)) (now (sink .entry)) (now (delay .entry)) (now (from .entry)) (now (to .entry)) (now (counts .entry)) (now (end .entry)) (now (latest .entry)) → Stepped g list r (now (source .exit)) (now (sink .exit)) (now (delay .exit)) (now (from .exit)) (now (to .exit)) (now (counts .exit))) ⌝ }
-    ensures olds { λ _. ⌜ Fronts (tasks * 64) (now (from .exit)) (now («old_from» .exit)) × Fronts (tasks * 64) (now (to .exit)) (now («old_to» .exit)) ⌝ }
+    ensures { λ r. ⌜ ((g : Graph) (list : List Edge) → Here g list tasks count (now (source .entry)) (now (sink .entry)) (now (delay .entry)) (now (from .entry)) (now (to .entry)) (now (counts .entry)) (now (end .entry)) (now (latest .entry)) → Stepped g list r (now (source .exit)) (now (sink .exit)) (now (delay .exit)) (now (from .exit)) (now (to .exit)) (now (counts .exit))) ⌝ }
 {
     let pair = best_pair(counts, to, end, latest, tasks);
     let a = pair.source as usize;
@@ -74,8 +62,6 @@ pub fn step<'a, 'b>(
         from,
         to,
         counts,
-        old_from,
-        old_to,
     );
     // The delays to the pair's source and from its sink are as before.
     let left = replace(count, from, to, tasks, a, b, source, sink, delay);
@@ -87,12 +73,9 @@ pub fn step<'a, 'b>(
     }
 }
 
-// Follows the steps of the plan from its first stage: the lists hold the last stage then. Two lists are for the same delays, as steps ask for.
+// Follows the steps of the plan from its first stage: the lists hold the last stage then.
 pub fn follow_steps<'a, 'b>(
     time: &'a [u16],
-    output: usize,
-    bound: u32,
-    edges: usize,
     first: usize,
     source: &'b mut [u8],
     sink: &'b mut [u8],
@@ -100,24 +83,16 @@ pub fn follow_steps<'a, 'b>(
     from: &'b mut [u16],
     to: &'b mut [u16],
     counts: &'b mut [u16],
-    old_from: &'b mut [u16],
-    old_to: &'b mut [u16],
-    order_source: &'b mut [u8],
-    order_sink: &'b mut [u8],
-    order_delay: &'b mut [u8],
-    order_sinks: &'b mut [u64],
-    order_sources: &'b mut [u64],
+    first_order: Order,
     end: &'b mut [u32],
     latest: &'b mut [u32],
 ) -> Walked
-    requires { ⌜ edges ≤ 320 ⌝ }
-    requires { ⌜ (length (now time) * 64 ≤ length (now «old_from»)) × (length (now time) * 64 ≤ length (now «old_to»)) ⌝ }
-    requires { ⌜ ((g : Graph) × Begun g (now time) output bound edges first (now source) (now sink) (now delay) (now from) (now to) (now counts) (now «order_source») (now «order_sink») (now «order_delay») (now «order_sinks») (now «order_sources») (now end) (now latest)) ⌝ }
-    ensures { λ r. ⌜ ((g : Graph) → Begun g (now (time .entry)) output bound edges first (now (source .entry)) (now (sink .entry)) (now (delay .entry)) (now (from .entry)) (now (to .entry)) (now (counts .entry)) (now («order_source» .entry)) (now («order_sink» .entry)) (now («order_delay» .entry)) (now («order_sinks» .entry)) (now («order_sources» .entry)) (now (end .entry)) (now (latest .entry)) → Followed g r (now (source .exit)) (now (sink .exit)) (now (delay .exit))) ⌝ }
+    requires { ⌜ ((g : Graph) × Begun g (now time) first (now source) (now sink) (now delay) (now from) (now to) (now counts) «first_order» (now end) (now latest)) ⌝ }
+    ensures { λ r. ⌜ ((g : Graph) → Begun g (now (time .entry)) first (now (source .entry)) (now (sink .entry)) (now (delay .entry)) (now (from .entry)) (now (to .entry)) (now (counts .entry)) «first_order» (now (end .entry)) (now (latest .entry)) → Followed g r (now (source .exit)) (now (sink .exit)) (now (delay .exit))) ⌝ }
 {
     let tasks = time.len();
-    copy(from, tasks * WIDTH, old_from);
-    copy(to, tasks * WIDTH, old_to);
+    let output = first_order.output;
+    let mut order = first_order;
     let mut count = first;
     let mut steps: u32 = 0;
     let mut going = true;
@@ -131,29 +106,13 @@ pub fn follow_steps<'a, 'b>(
             from,
             to,
             counts,
-            old_from,
-            old_to,
             end,
             latest,
         );
         going = next.taken;
         count = next.count;
         if going {
-            next_times(
-                time,
-                output,
-                bound,
-                edges + steps as usize,
-                next.source,
-                next.sink,
-                order_source,
-                order_sink,
-                order_delay,
-                order_sinks,
-                order_sources,
-                end,
-                latest,
-            );
+            order = next_times(time, next.source, next.sink, order, end, latest);
             steps += 1;
         }
     }

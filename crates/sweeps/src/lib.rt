@@ -4,13 +4,14 @@
 // looked at stands in a word of 64 bits. They are looked at against a sequence that the caller gives; what is proved does not depend on it.
 ghost use mathlib.Core.Path.{_≡_};
 ghost use mathlib.Core.Bool.{true, not, _&&_};
-ghost use Prim.Native.Nat.{ℕ, _+_, _≤_, _<_, min, max};
+ghost use Prim.Native.Nat.{ℕ, _+_, _≤_, _<_, min};
 ghost use lib.Dec.{eqb};
 ghost use lib.ListN.{length, getD, replicate};
 ghost use Rattle.records.specs.Columns.{edgesOf};
 ghost use Rattle.delays.specs.Delays.{Fit};
 ghost use Rattle.reach.specs.Reach.{bit};
 ghost use Rattle.sweeps.specs.Sweeps.{rowAt, Lowest, Sound, Going, Fallen, Chained, Followed, HasSources, LoweredTo, LoweredBy, RowOver, Stored, Looked, Swept};
+use delays::WIDTH;
 use reach::with_bit;
 
 // One row of delays.
@@ -23,9 +24,6 @@ struct Step {
     stale: u64,
     changed: bool,
 }
-
-// Entries in a row.
-const WIDTH: usize = 64;
 
 // No edge: every edge has a smaller number.
 const NO_EDGE: u16 = 576;
@@ -46,16 +44,6 @@ pub fn nearer(a: u16, b: u16) -> u16
     ensures { λ r. ⌜ r ≡ min a b ⌝ }
 {
     if (b as i16) < (a as i16) {
-        return b;
-    }
-    a
-}
-
-// The larger of two numbers.
-pub fn greater(a: u16, b: u16) -> u16
-    ensures { λ r. ⌜ r ≡ max a b ⌝ }
-{
-    if a < b {
         return b;
     }
     a

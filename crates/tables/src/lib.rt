@@ -8,6 +8,8 @@ ghost use Rattle.records.specs.Columns.{edgesOf};
 ghost use Rattle.delays.specs.Delays.{delayTable, Fit};
 ghost use Rattle.sweeps.specs.Sweeps.{rowAt, Lowest};
 ghost use Rattle.tables.specs.Tables.{Square, RowLowered, RowTaken, Widened, entryAt, cappedThrough, oneEdge, stepped, widened};
+use delays::FAR;
+use delays::WIDTH;
 use sweeps::copy_row;
 use sweeps::lesser;
 use sweeps::nearer;
@@ -18,14 +20,8 @@ struct Row {
     delay: [u16; 64],
 }
 
-// No path yet: above every least delay, and so small that the sum of two entries is below 32,768.
-const FAR: u16 = 16383;
-
 // So many tasks that rounds over inner tasks take no longer than sweeps.
 const FEW: usize = 32;
-
-// Entries in a row of a table that is swept.
-const WIDTH: usize = 64;
 
 // No path, in the finished table.
 const NONE: u16 = 65535;

@@ -1,18 +1,19 @@
 -- Rows of 64 numbers fall one after the other, and each number by number: what is lowered stays, since each store goes past it, and the least of the
 -- numbers that fell is kept.
-use mathlib.Core.Path.{_≡_, refl, sym, ap, _∙_}
+use mathlib.Core.Path.{_≡_, refl, sym, ap, _∙_, subst}
 use mathlib.Core.Logic.{_⊎_, inl, inr, ⊎-elim}
 use mathlib.Core.List.{List}
 use Prim.Native.Nat.{ℕ, _+_, _-_, _*_, _≤_, _<_, min}
-use native.Mathlib.Nat.{not-suc-le-zero}
+use native.Mathlib.Nat.{not-suc-le-zero, zero-add}
 use native.Mathlib.Omega.{arith}
-use lib.ListN.{length, getD, set, length-set}
+use lib.ListN.{length, getD, set}
 use lib.Seq.{getD-set-same, getD-set-other}
 use Rattle.model.proofs.Basics.{order}
 use Rattle.records.specs.Columns.{at}
 use Rattle.records.proofs.Rows.{place-within}
 use Rattle.sweeps.proofs.Parts.{PartDone, part-more}
-use Rattle.updates.specs.Updates.{Small, RowFell, RowsJoined}
+use Rattle.updates.specs.Updates.{Small, RowFell, RowCopied, lowerAt, RowLowered, RowsJoined}
+use Rattle.updates.proofs.Rows.{rowOf, row-at}
 
 -- ── One row ──
 
@@ -75,80 +76,66 @@ module _ (way : ℕ) (onward : List ℕ) (start : ℕ) where
     fell = λ y l. inl refl;
   }
 
+-- ── A row of its own ──
+
+pub row-lowered :
+    {near far x least : ℕ} {rows row after : List ℕ} → far * 64 + 64 ≤ length rows → RowCopied rows (x * 64) 64 row
+    → RowFell (at rows (x * 64 + near)) (rowOf far rows) 0 64 row after least → RowLowered near far rows x after least
+row-lowered {near} {far} {x} {least} {rows} {row} {after} room copied next = record {
+  size = next .size ∙ copied .size;
+  each = λ y l.
+      new y ∙ (next .inside y l ∙ (λ i. min ((old y ∙ copied .each y l) i) (at rows (x * 64 + near) + row-at far rows room y l i)));
+  fell = λ y l.
+      ⊎-elim (λ q. inl (omega (arith, new y, q, old y, copied .each y l))) (λ q. inr (omega (arith, new y, q))) (next .fell y l);
+}
+  where
+    new : (y : ℕ) → at after y ≡ at after (0 + y)
+    new y = ap (at after) (sym (zero-add y))
+
+    old : (y : ℕ) → at row (0 + y) ≡ at row y
+    old y = ap (at row) (zero-add y)
+
 -- ── All of them ──
 
 -- the first `many` rows are lowered, the others are as before
-pub record JoinedSoFar (ways onward : List ℕ) (many : ℕ) (before after fell : List ℕ) : Type 0 where
-  pub joined : RowsJoined ways onward many before after fell
+pub record JoinedSoFar (near far many : ℕ) (before after : List ℕ) : Type 0 where
+  pub joined : RowsJoined near far many before after
   pub rest : (i : ℕ) → many * 64 ≤ i → at after i ≡ at before i
 
-module _ (ways onward : List ℕ) where
-  pub joined-none : {before fell : List ℕ} → Small before → length fell ≡ 64 → JoinedSoFar ways onward 0 before before fell
-  joined-none small size = record {
-    joined = record {
-      size = refl;
-      small = small;
-      fell-size = size;
-      inside = λ x y l k. absurd (not-suc-le-zero l);
-      falls = record { lower = λ x y l k. absurd (not-suc-le-zero l); least = λ x y l k. absurd (not-suc-le-zero l) };
-    };
-    rest = λ i l. refl;
-  }
+pub joined-none : (near far : ℕ) {before : List ℕ} → Small before → JoinedSoFar near far 0 before before
+joined-none near far small = record {
+  joined = record { size = refl; small = small; inside = λ x y l k. absurd (not-suc-le-zero l) };
+  rest = λ i l. refl;
+}
 
-  pub joined-more :
-      {x least : ℕ} {before rows after fell : List ℕ} → JoinedSoFar ways onward x before rows fell → x < 64
-      → RowFell (at ways x) onward (x * 64) 64 rows after least → JoinedSoFar ways onward (x + 1) before after (set fell x least)
-  unfolding at
-  joined-more {x} {least} {before} {rows} {after} {fell} done few next = record {
-    joined = record {
-      size = next .size ∙ done .joined .size;
-      small = λ i. low i (order (x * 64) i) (order (x * 64 + 64) i);
-      fell-size = length-set fell x least ∙ done .joined .fell-size;
-      inside = inside;
-      falls = record { lower = λ a y l k. omega (arith, inside a y l k); least = λ a y l k. counted a y l k (order x a) };
-    };
-    rest = λ i l. next .outside i (inr (omega arith)) ∙ done .rest i (omega arith);
-  }
-    where
-      -- rows before it are as they were
-      earlier : (a y : ℕ) → a < x → y < 64 → at after (a * 64 + y) ≡ at rows (a * 64 + y)
-      earlier a y l k = next .outside (a * 64 + y) (inl (place-within 64 x a y l k))
+pub joined-more :
+    {near far x way least : ℕ} {onward before rows after : List ℕ} → JoinedSoFar near far x before rows → RowCopied before (far * 64) 64 onward
+    → way ≡ at rows (x * 64 + near) → RowFell way onward (x * 64) 64 rows after least → JoinedSoFar near far (x + 1) before after
+joined-more {near} {far} {x} {way} {least} {onward} {before} {rows} {after} done copied way-is next = record {
+  joined = record {
+    size = next .size ∙ done .joined .size;
+    small = λ i. low i (order (x * 64) i) (order (x * 64 + 64) i);
+    inside = λ a y l k. go a y l k (order x a);
+  };
+  rest = λ i l. next .outside i (inr (omega arith)) ∙ done .rest i (omega arith);
+}
+  where
+    -- the row was as it was at first
+    first : (y : ℕ) → at rows (x * 64 + y) ≡ at before (x * 64 + y)
+    first y = done .rest (x * 64 + y) (omega arith)
 
-      -- and it was as it was at first
-      first : (y : ℕ) → at rows (x * 64 + y) ≡ at before (x * 64 + y)
-      first y = done .rest (x * 64 + y) (omega arith)
+    low : (i : ℕ) → (x * 64 ≤ i) ⊎ (i < x * 64) → (x * 64 + 64 ≤ i) ⊎ (i < x * 64 + 64) → at after i ≤ 16383
+    low i (inr h) past = omega (arith, next .outside i (inl h), done .joined .small i)
+    low i (inl h) (inl past) = omega (arith, next .outside i (inr past), done .joined .small i)
+    low i (inl h) (inr within) =
+        let y = i - x * 64 in
+        let place : x * 64 + y ≡ i = omega arith in
+        let new = next .inside y (omega arith) in
+        omega (arith, ap (at after) place, new, done .joined .small (x * 64 + y))
 
-      low : (i : ℕ) → (x * 64 ≤ i) ⊎ (i < x * 64) → (x * 64 + 64 ≤ i) ⊎ (i < x * 64 + 64) → at after i ≤ 16383
-      low i (inr h) past = omega (arith, next .outside i (inl h), done .joined .small i)
-      low i (inl h) (inl past) = omega (arith, next .outside i (inr past), done .joined .small i)
-      low i (inl h) (inr within) =
-          let y = i - x * 64 in
-          let place : x * 64 + y ≡ i = omega arith in
-          let new = next .inside y (omega arith) in
-          omega (arith, ap (at after) place, new, done .joined .small (x * 64 + y))
-
-      inside : (a y : ℕ) → a < x + 1 → y < 64 → at after (a * 64 + y) ≡ min (at before (a * 64 + y)) (at ways a + at onward y)
-      inside a y l k = go (order x a)
-        where
-          go : (x ≤ a) ⊎ (a < x) → at after (a * 64 + y) ≡ min (at before (a * 64 + y)) (at ways a + at onward y)
-          go (inl h) =
-              let same : a ≡ x = omega arith in
-              ap (λ (c : ℕ). at after (c * 64 + y)) same ∙
-              (next .inside y k ∙
-              (ap (λ (n : ℕ). min n (at ways x + at onward y)) (first y) ∙
-              ap (λ (c : ℕ). min (at before (c * 64 + y)) (at ways c + at onward y)) (sym same)))
-          go (inr h) = earlier a y h k ∙ done .joined .inside a y h k
-
-      counted : (a y : ℕ) → a < x + 1 → y < 64 → (x ≤ a) ⊎ (a < x)
-          → (at after (a * 64 + y) ≡ at before (a * 64 + y)) ⊎ (getD (set fell x least) a 0 ≤ at after (a * 64 + y))
-      counted a y l k (inl h) =
-          let same : a ≡ x = omega arith in
-          let there : at after (a * 64 + y) ≡ at after (x * 64 + y) = ap (λ (c : ℕ). at after (c * 64 + y)) same in
-          let was : at before (a * 64 + y) ≡ at before (x * 64 + y) = ap (λ (c : ℕ). at before (c * 64 + y)) same in
-          let stored : getD (set fell x least) a 0 ≡ least =
-          ap (λ (c : ℕ). getD (set fell x least) c 0) same ∙ getD-set-same fell x least 0 (omega (arith, done .joined .fell-size)) in
-          ⊎-elim (λ q. inl (omega (arith, first y))) (λ q. inr (omega arith)) (next .fell y k)
-      counted a y l k (inr h) =
-          let there = earlier a y h k in
-          let stored : getD (set fell x least) a 0 ≡ getD fell a 0 = getD-set-other fell x a least 0 (λ q. omega arith) in
-          ⊎-elim (λ q. inl (omega arith)) (λ q. inr (omega arith)) (done .joined .falls .least a y h k)
+    go : (a y : ℕ) → a < x + 1 → y < 64 → (x ≤ a) ⊎ (a < x) → at after (a * 64 + y) ≡ lowerAt near far before a y
+    go a y l k (inl h) =
+        let same : x ≡ a = omega arith in
+        subst (λ (c : ℕ). at after (c * 64 + y) ≡ lowerAt near far before c y) same
+        (next .inside y k ∙ (λ i. min (first y i) ((way-is ∙ first near) i + copied .each y k i)))
+    go a y l k (inr h) = next .outside (a * 64 + y) (inl (place-within 64 x a y h k)) ∙ done .joined .inside a y h k

@@ -1,5 +1,4 @@
 -- The proofs that other crates may cite.
+pub mod Rows
 pub mod Lines
 pub mod Falls
-pub mod Pairs
-pub mod Olds

@@ -5,21 +5,10 @@ use mathlib.Core.List.{List}
 use Prim.Native.Nat.{ℕ, _+_, _*_, _≤_, _<_, min}
 use lib.ListN.{length}
 use Rattle.records.specs.Columns.{at}
-use Rattle.counts.specs.Counts.{RowsFell}
 
 -- every number is at most 16,383
 abbrev pub Small : List ℕ → Type 0
 Small xs = (i : ℕ) → at xs i ≤ 16383
-
--- two lists agree in so many places from the front
-pub record Fronts (count : ℕ) (xs ys : List ℕ) : Type 0 where
-  pub same : (i : ℕ) → i < count → at ys i ≡ at xs i
-
--- the first `many` numbers from a start on are those of another list; the other numbers are as before
-pub record RowCopied (start many : ℕ) (from before after : List ℕ) : Type 0 where
-  pub size : length after ≡ length before
-  pub inside : (i : ℕ) → i < many → at after (start + i) ≡ at from (start + i)
-  pub outside : (i : ℕ) → (i < start) ⊎ (start + many ≤ i) → at after i ≡ at before i
 
 -- the first `many` numbers from a start on are entries of a table that stand a step apart, cut at 16,383; the other numbers are as before
 pub record LineSpread (table : List ℕ) (first step start many : ℕ) (before after : List ℕ) : Type 0 where
@@ -40,21 +29,27 @@ pub record RowFell (way : ℕ) (onward : List ℕ) (start many : ℕ) (before af
   pub outside : (i : ℕ) → (i < start) ⊎ (start + many ≤ i) → at after i ≡ at before i
   pub fell : (y : ℕ) → y < many → (at after (start + y) ≡ at before (start + y)) ⊎ (least ≤ at after (start + y))
 
--- Each row is lowered to its way and what comes after it.
-pub record RowsJoined (ways onward : List ℕ) (tasks : ℕ) (before after fell : List ℕ) : Type 0 where
+-- The first `many` numbers of a row of its own are those of a list from a start on.
+pub record RowCopied (rows : List ℕ) (start many : ℕ) (row : List ℕ) : Type 0 where
+  pub size : length row ≡ 64
+  pub each : (i : ℕ) → i < many → at row i ≡ at rows (start + i)
+
+-- number y of row x, lowered to the row's number for the task `near` and number y of row `far` after it
+abbrev pub lowerAt : ℕ → ℕ → List ℕ → ℕ → ℕ → ℕ
+lowerAt near far rows x y = min (at rows (x * 64 + y)) (at rows (x * 64 + near) + at rows (far * 64 + y))
+
+-- A row of its own is row x lowered; each number that fell is at least `least`.
+pub record RowLowered (near far : ℕ) (rows : List ℕ) (x : ℕ) (row : List ℕ) (least : ℕ) : Type 0 where
+  pub size : length row ≡ 64
+  pub each : (y : ℕ) → y < 64 → at row y ≡ lowerAt near far rows x y
+  pub fell : (y : ℕ) → y < 64 → (at row y ≡ at rows (x * 64 + y)) ⊎ (least ≤ at row y)
+
+-- the first rows of a list are those of another, lowered
+abbrev pub Lowers : ℕ → ℕ → ℕ → List ℕ → List ℕ → Type 0
+Lowers near far tasks before after = (x y : ℕ) → x < tasks → y < 64 → at after (x * 64 + y) ≡ lowerAt near far before x y
+
+-- Each row is lowered.
+pub record RowsJoined (near far tasks : ℕ) (before after : List ℕ) : Type 0 where
   pub size : length after ≡ length before
   pub small : Small after
-  pub fell-size : length fell ≡ 64
-  pub inside : (x y : ℕ) → x < tasks → y < 64 → at after (x * 64 + y) ≡ min (at before (x * 64 + y)) (at ways x + at onward y)
-  pub falls : RowsFell tasks before after fell
-
--- Each delay fell to the way to a and the way from b on, in both lists.
-pub record PairAdded (tasks a b : ℕ) (from to from′ to′ : List ℕ) : Type 0 where
-  pub from-size : tasks * 64 ≤ length from′
-  pub to-size : tasks * 64 ≤ length to′
-  pub from-small : Small from′
-  pub to-small : Small to′
-  pub from-is : (x y : ℕ) → x < tasks → y < 64 →
-      at from′ (x * 64 + y) ≡ min (at from (x * 64 + y)) (at to (a * 64 + x) + at from (b * 64 + y))
-  pub to-is : (y x : ℕ) → y < tasks → x < 64 →
-      at to′ (y * 64 + x) ≡ min (at to (y * 64 + x)) (at from (b * 64 + y) + at to (a * 64 + x))
+  pub inside : Lowers near far tasks before after

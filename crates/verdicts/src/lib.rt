@@ -3,7 +3,7 @@ ghost use mathlib.Core.Path.{_≡_};
 ghost use mathlib.Core.List.{List};
 ghost use mathlib.Core.Bool.{true};
 ghost use Prim.Native.Nat.{ℕ, _+_, _*_, _≤_, _<_};
-ghost use lib.ListN.{length, replicate};
+ghost use lib.ListN.{length};
 ghost use Rattle.model.specs.Tasks.{Edge};
 ghost use Rattle.model.specs.Graph.{Graph};
 ghost use Rattle.model.specs.Compute.{orderHolds};
@@ -14,6 +14,8 @@ ghost use Rattle.ways.specs.Ways.{StepsOf};
 ghost use Rattle.readings.specs.Working.{graphFrom, proposalFrom};
 ghost use Rattle.verdicts.specs.Verdicts.{judgement, OpenPlace, Judgeable};
 ghost use Rattle.verdicts.specs.Tables.{FoundCyclic, Among, FirstAbove, NoneAbove, lostFrom};
+use delays::FAR;
+use files::PASSED;
 use files::Refusal;
 use reach::leads_to;
 use reach::paths_between_processors;
@@ -21,9 +23,9 @@ use reach::processor_of;
 use readings::GraphNumbers;
 use readings::ProposalNumbers;
 use results::result_edges_into;
-use sweeps::lesser;
 use tables::least_table;
 use ways::least_row;
+use ways::take_steps;
 
 // The verdict on proposed edges: the refusal, and the latency of the result if it is accepted or late, 0 otherwise.
 pub struct Judgement {
@@ -31,21 +33,10 @@ pub struct Judgement {
     pub latency: u32,
 }
 
-const PASSED: Refusal = Refusal {
-    number: 0,
-    place: 0,
-};
-
 const LATE: Refusal = Refusal {
     number: 15,
     place: 0,
 };
-
-// So many tasks that a square of 256 entries has room for the delays between them.
-const FEW: usize = 16;
-
-// No path, in a row of least delays: above every delay.
-const FAR: u16 = 16383;
 
 // The place of an edge that lies on a cycle, counted from 1, or 0 if none does: by between which processors paths lead in the graph that has them.
 fn cyclic_place<'a>(source: &'a [u8], sink: &'a [u8], processor: &'a [u8], words: &'a [u64]) -> u32
@@ -64,28 +55,6 @@ fn cyclic_place<'a>(source: &'a [u8], sink: &'a [u8], processor: &'a [u8], words
         j += 1;
     }
     0
-}
-
-// Lowers the entry of each edge's ends to its delay.
-fn take_steps<'a>(
-    source: &'a [u8],
-    sink: &'a [u8],
-    delay: &'a [u8],
-    tasks: usize,
-    square: &mut [u16],
-)
-    requires { ⌜ (length (now sink) ≡ length (now source)) × (length (now delay) ≡ length (now source)) ⌝ }
-    requires { ⌜ (tasks ≤ 64) × (tasks * tasks ≤ length (now square)) × (now square ≡ replicate (length (now square)) 65535) ⌝ }
-    requires { ⌜ Fit tasks (edgesOf (now source) (now sink) (now delay)) ⌝ }
-    ensures size { λ _. ⌜ length (now (square .exit)) ≡ length (now (square .entry)) ⌝ }
-    ensures steps { λ _. ⌜ StepsOf tasks (edgesOf (now (source .entry)) (now (sink .entry)) (now (delay .entry))) (now (square .exit)) ⌝ }
-{
-    let mut j = 0;
-    while j < source.len() {
-        let at = source[j] as usize * tasks + sink[j] as usize;
-        square[at] = lesser(square[at], delay[j] as u16);
-        j += 1;
-    }
 }
 
 // 14's refusal at the first edge of a graph's file whose delay is below the entry of its ends; processor edges stand first in the lists, one for
@@ -155,28 +124,33 @@ fn order_held(source: u8, sink: u8, delay: u8, steps: &[u16], tasks: usize) -> b
     row[sink as usize] <= delay as u16
 }
 
-// 14: the first edge of a graph's file whose order is lost in the result, by a square of 65,535 to write into. An edge of the result with the same ends and
-// no more delay holds an order. Where only one lacks such an edge the least delays out of its source decide; where more do, all least delays are worked out.
-fn lost_by<'a>(
+// 14: the first edge of a graph's file whose order is lost in the result. None is if the result has as many edges as the graph and those proposed: then it
+// has every edge. An edge of the result with the same ends and no more delay holds an order. Where only one order lacks such an edge, the least delays out of
+// its source decide; where more do, all least delays are worked out.
+fn lost_order<'a>(
     source: &'a [u8],
     sink: &'a [u8],
     delay: &'a [u8],
     result_source: &'a [u8],
     result_sink: &'a [u8],
     result_delay: &'a [u8],
+    proposed: usize,
     tasks: usize,
     sequence: &'a [u8],
-    table: &mut [u16],
 ) -> Refusal
     requires { ⌜ (length (now sink) ≡ length (now source)) × (length (now delay) ≡ length (now source)) ⌝ }
     requires { ⌜ (length (now «result_sink») ≡ length (now «result_source»)) × (length (now «result_delay») ≡ length (now «result_source»)) ⌝ }
-    requires { ⌜ (tasks ≤ length (now source)) × (length (now source) ≤ 320) × (tasks ≤ 64) × (length (now sequence) ≤ 64) ⌝ }
-    requires { ⌜ (tasks * tasks ≤ length (now table)) × (now table ≡ replicate (length (now table)) 65535) ⌝ }
+    requires { ⌜ (tasks ≤ length (now source)) × (length (now source) ≤ 320) × (tasks ≤ 64) × (proposed ≤ 256) × (length (now sequence) ≤ 64) ⌝ }
+    requires { ⌜ (length (now «result_source») ≡ length (now source) + proposed → Among (now source) (now sink) (now delay) (edgesOf (now «result_source») (now «result_sink») (now «result_delay»))) ⌝ }
     requires { ⌜ Fit tasks (edgesOf (now source) (now sink) (now delay)) ⌝ }
     requires { ⌜ Fit tasks (edgesOf (now «result_source») (now «result_sink») (now «result_delay»)) ⌝ }
     ensures { λ r. ⌜ r ≡ lostFrom tasks (edgesOf (now («result_source» .entry)) (now («result_sink» .entry)) (now («result_delay» .entry))) (now (source .entry)) (now (sink .entry)) (now (delay .entry)) ⌝ }
 {
-    take_steps(result_source, result_sink, result_delay, tasks, table);
+    if result_source.len() == source.len() + proposed {
+        return PASSED;
+    }
+    let mut table: [u16; 4096] = [65535; 4096];
+    take_steps(result_source, result_sink, result_delay, tasks, &mut table);
     let open = first_above(source, sink, delay, &table[0..tasks * tasks], tasks);
     if open.number == 0 {
         return open;
@@ -201,61 +175,9 @@ fn lost_by<'a>(
         result_delay,
         tasks,
         sequence,
-        table,
+        &mut table,
     );
     first_above(source, sink, delay, &table[0..tasks * tasks], tasks)
-}
-
-// 14, where no order is lost if the result has as many edges as the graph and those proposed: then it has every edge. The square is no larger than so many
-// tasks ask for.
-fn lost_order<'a>(
-    source: &'a [u8],
-    sink: &'a [u8],
-    delay: &'a [u8],
-    result_source: &'a [u8],
-    result_sink: &'a [u8],
-    result_delay: &'a [u8],
-    proposed: usize,
-    tasks: usize,
-    sequence: &'a [u8],
-) -> Refusal
-    requires { ⌜ (length (now sink) ≡ length (now source)) × (length (now delay) ≡ length (now source)) ⌝ }
-    requires { ⌜ (length (now «result_sink») ≡ length (now «result_source»)) × (length (now «result_delay») ≡ length (now «result_source»)) ⌝ }
-    requires { ⌜ (tasks ≤ length (now source)) × (length (now source) ≤ 320) × (tasks ≤ 64) × (proposed ≤ 256) × (length (now sequence) ≤ 64) ⌝ }
-    requires { ⌜ (length (now «result_source») ≡ length (now source) + proposed → Among (now source) (now sink) (now delay) (edgesOf (now «result_source») (now «result_sink») (now «result_delay»))) ⌝ }
-    requires { ⌜ Fit tasks (edgesOf (now source) (now sink) (now delay)) ⌝ }
-    requires { ⌜ Fit tasks (edgesOf (now «result_source») (now «result_sink») (now «result_delay»)) ⌝ }
-    ensures { λ r. ⌜ r ≡ lostFrom tasks (edgesOf (now («result_source» .entry)) (now («result_sink» .entry)) (now («result_delay» .entry))) (now (source .entry)) (now (sink .entry)) (now (delay .entry)) ⌝ }
-{
-    if result_source.len() == source.len() + proposed {
-        return PASSED;
-    }
-    if tasks <= FEW {
-        let mut small: [u16; 256] = [65535; 256];
-        return lost_by(
-            source,
-            sink,
-            delay,
-            result_source,
-            result_sink,
-            result_delay,
-            tasks,
-            sequence,
-            &mut small,
-        );
-    }
-    let mut table: [u16; 4096] = [65535; 4096];
-    lost_by(
-        source,
-        sink,
-        delay,
-        result_source,
-        result_sink,
-        result_delay,
-        tasks,
-        sequence,
-        &mut table,
-    )
 }
 
 // Judges proposed edges beside a graph, whose lists stand apart from their numbers. The result's latency comes before 14, since the sequence in which its

@@ -1,2 +1,3 @@
 -- The proofs that other crates may cite.
+pub mod Steps
 pub mod Ways

@@ -5,13 +5,35 @@ ghost use mathlib.Core.List.{List};
 ghost use Prim.Native.Nat.{ℕ, _+_, _*_, _≤_, _<_};
 ghost use lib.ListN.{length, getD, replicate};
 ghost use Rattle.model.specs.Tasks.{Edge};
+ghost use Rattle.records.specs.Columns.{edgesOf};
+ghost use Rattle.delays.specs.Delays.{Fit};
 ghost use Rattle.sweeps.specs.Sweeps.{Lowest};
 ghost use Rattle.ways.specs.Ways.{StepsOf, Pushed, Seen, Passed};
+use delays::FAR;
 use sweeps::lesser;
 use sweeps::nearer;
 
-// No path: above every delay, and twice as much still fits a signed number of 16 bits.
-const FAR: u16 = 16383;
+// Lowers the entry of each edge's ends to its delay, in a square where no step is yet.
+pub fn take_steps<'a>(
+    source: &'a [u8],
+    sink: &'a [u8],
+    delay: &'a [u8],
+    tasks: usize,
+    square: &mut [u16],
+)
+    requires { ⌜ (length (now sink) ≡ length (now source)) × (length (now delay) ≡ length (now source)) ⌝ }
+    requires { ⌜ (tasks ≤ 64) × (now square ≡ replicate 4096 65535) ⌝ }
+    requires { ⌜ Fit tasks (edgesOf (now source) (now sink) (now delay)) ⌝ }
+    ensures size { λ _. ⌜ length (now (square .exit)) ≡ 4096 ⌝ }
+    ensures steps { λ _. ⌜ StepsOf tasks (edgesOf (now (source .entry)) (now (sink .entry)) (now (delay .entry))) (now (square .exit)) ⌝ }
+{
+    let mut j = 0;
+    while j < source.len() {
+        let at = source[j] as usize * tasks + sink[j] as usize;
+        square[at] = lesser(square[at], delay[j] as u16);
+        j += 1;
+    }
+}
 
 // Lowers each entry of a row to a way and the step after it.
 fn push_row(steps: &[u16], start: usize, tasks: usize, way: u16, row: &mut [u16])

@@ -42,14 +42,6 @@ fn fill(waits: &mut [Wait; MOST_TASKS + MOST_EDGES], graph: &Graph, turns: usize
         before[next] = (task, graph.ring.delay[task] as usize);
     }
     let (begin, arcs) = by_sink(graph);
-    // A turn ends no earlier than an earlier one, nor than one of a task before it on its processor: the stronger of two edges from
-    // one processor to one task, or to a task before it on its own, does for both.
-    let mut strongest = [0; 256];
-    for &arc in graph.edges() {
-        let strongest = &mut strongest[joined(graph, arc)];
-        *strongest = (*strongest).max(strength(arc) - 64);
-    }
-
     let mut count = 0;
     let mut put = |source: usize, sink: usize, delay: usize, more: u32| {
         waits[count] = Wait {
@@ -63,9 +55,7 @@ fn fill(waits: &mut [Wait; MOST_TASKS + MOST_EDGES], graph: &Graph, turns: usize
     for &task in &graph.first_turn.sequence[..graph.tasks] {
         let task = task as usize % MOST_TASKS;
         for &arc in &arcs[begin[task] as usize..begin[task + 1] as usize] {
-            let strongest = &mut strongest[joined(graph, arc)];
-            if strength(arc) > *strongest && arc.delay() < turns {
-                *strongest = strength(arc);
+            if arc.delay() < turns {
                 put(arc.source(), task, arc.delay(), u32::MAX);
             }
         }
@@ -73,17 +63,6 @@ fn fill(waits: &mut [Wait; MOST_TASKS + MOST_EDGES], graph: &Graph, turns: usize
         put(source, task, delay, 0);
     }
     count
-}
-
-/// The number of a pair of processors.
-fn joined(graph: &Graph, arc: Arc) -> usize {
-    let (source, sink) = (graph.processor[arc.source()], graph.processor[arc.sink()]);
-    (source as usize % 16) * 16 + sink as usize % 16
-}
-
-/// Larger for a later turn, and then for a later task. A turn is 64.
-fn strength(arc: Arc) -> i16 {
-    (64 * (255 - arc.delay()) + arc.source() + 1) as i16
 }
 
 /// The edges of the file grouped by sink, and where groups begin.

@@ -1,9 +1,8 @@
 -- `candidates::exceeding` meets its contract: after b steps, if none was found, none of the first b counts exceeds the number.
 use mathlib.Core.Path.{_≡_}
-use Prim.Native.Nat.{ℕ, _+_, _-_, _≤_, _<_}
+use Prim.Native.Nat.{_+_, _-_, _≤_}
 use native.Mathlib.Omega.{arith}
 use borrow.Author.Count.{below-none, below-more}
-use borrow.Author.Needs.{needs}
 use Rattle.records.specs.Columns.{at}
 use Rattle.candidates.specs.Searches.{RowFew}
 use Rattle.candidates.proofs.exceeding.Statement.{statement}

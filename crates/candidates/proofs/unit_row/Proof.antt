@@ -1,10 +1,8 @@
 -- `candidates::unit_row` meets its contract: after b steps the first b numbers are times in units.
 use mathlib.Core.Path.{_≡_, sym, _∙_, subst}
 use Prim.Native.Nat.{ℕ, _-_, _≤_, _<_}
-use native.Mathlib.Nat.{not-suc-le-zero}
 use native.Mathlib.Omega.{arith}
 use lib.ListN.{length}
-use borrow.Author.Needs.{needs}
 use Rattle.records.specs.Columns.{at}
 use Rattle.candidates.specs.Searches.{UnitRow}
 use Rattle.candidates.proofs.Times.{units-none, units-more}

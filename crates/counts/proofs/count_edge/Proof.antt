@@ -1,148 +1,98 @@
--- `counts::count_edge` meets its contract: after a steps the edge is counted for the pairs out of the first a tasks. Where nothing is left of its limit,
--- it has no share.
-use mathlib.Core.Path.{_≡_, refl, sym, subst}
-use mathlib.Core.Logic.{⊎-elim}
-use mathlib.Core.List.{List}
-use Prim.Native.Nat.{ℕ, _+_, _-_, _*_, _≤_}
+-- `counts::count_edge` meets its contract: an edge that is not counted yet has a limit of 0.
+use mathlib.Core.Path.{refl}
+use Prim.Native.Nat.{_+_, _*_, _≤_}
 use native.Mathlib.Omega.{arith}
+use lib.ListN.{length}
 use borrow.Author.Needs.{needs}
-use Rattle.records.specs.Columns.{at}
-use Rattle.counts.specs.Counts.{BelowRow, EdgeShifted}
-use Rattle.counts.proofs.Shifts.{below-few, below-zero, share-none, edge-none, edge-covered, edge-moved, edge-passed}
+use Rattle.updates.proofs.Rows.{row-size, row-at, row-small}
+use Rattle.counts.proofs.Shifts.{edge-as}
+use Rattle.counts.proofs.Fallen.{lent-covered}
 use Rattle.counts.proofs.count_edge.Statement.{statement}
 use Rattle.counts.proofs.count_edge.Tie as tie
 
-abbrev Inv-loop : tie.InvT-loop
-Inv-loop from to source sink limit tasks counts₀ more₀ last₀ a₀ counts more last a = (a ≤ tasks) × EdgeShifted from to from to source sink 0 limit a counts₀ counts × BelowRow to (sink * 64) last 64 more
+mul-s : tie.Need-mul-s
+mul-s c = search needs
 
-abbrev μ-loop : tie.MeasureT-loop
-μ-loop from to source sink limit tasks counts₀ more₀ last₀ a₀ counts more last a = tasks - a
+mul-t : tie.Need-mul-t
+mul-t c = search needs
 
-abbrev begin : tie.In-loop Inv-loop μ-loop → tie.Start Inv-loop μ-loop
-begin c = c .before .before .before .before .before
+add-before : tie.Need-add-before
+add-before c = search needs
 
-loop-holds : tie.Need-loop-holds Inv-loop μ-loop
-loop-holds c =
-    let args = c .before .before .before .args in
-    (omega arith, edge-none (args .from .now) (args .to .now) (args .from .now) (args .to .now) (args .source) (args .sink) 0 (args .limit) (args .counts .now), below-zero (args .to .now) (args .sink * 64))
+mul-before : tie.Need-mul-before
+mul-before c = search needs
 
-mul-left-of : tie.Need-mul-left-of Inv-loop μ-loop
-mul-left-of c = omega (arith, begin c .pre .1 .0)
+sub-before : tie.Need-sub-before
+sub-before c = search needs
 
-add-left-of : tie.Need-add-left-of Inv-loop μ-loop
-add-left-of c = omega (arith, begin c .pre .1 .0)
+part-before-start : tie.Need-part-before-start
+part-before-start c = search needs
 
-mul-left-of-2 : tie.Need-mul-left-of-2 Inv-loop μ-loop
-mul-left-of-2 c = omega (arith, begin c .pre .1 .0)
+part-before-end : tie.Need-part-before-end
+part-before-end c = search needs
 
-shared-slice-read-left-of : tie.Need-shared-slice-read-left-of Inv-loop μ-loop
-shared-slice-read-left-of c =
-    let inner = c .before in
-    omega (arith, begin inner .pre .0 .0, begin inner .pre .1 .0, inner .loop-test .taken)
+add-after : tie.Need-add-after
+add-after c = search needs
 
-left-of-requires : tie.Need-left-of-requires Inv-loop μ-loop
-left-of-requires c κs = search needs
+mul-after : tie.Need-mul-after
+mul-after c = search needs
 
-mul-renew-row : tie.Need-mul-renew-row Inv-loop μ-loop
-mul-renew-row c = omega (arith, begin (c .before .before .before) .pre .1 .0)
+sub-after : tie.Need-sub-after
+sub-after c = search needs
 
-slice-aggregate-renew-row : tie.Need-slice-aggregate-renew-row Inv-loop μ-loop
-slice-aggregate-renew-row c = sym (c .before .before .before .before .before .loop .inv .2 .size)
+part-after-start : tie.Need-part-after-start
+part-after-start c = search needs
 
-renew-row-requires : tie.Need-renew-row-requires Inv-loop μ-loop
-unfolding at
-renew-row-requires c κs =
-    let inner = c .before .before .before .before in
-    let asked = begin inner .pre in (
+part-after-end : tie.Need-part-after-end
+part-after-end c = search needs
+
+shift-edge-requires : tie.Need-shift-edge-requires
+shift-edge-requires c κs =
+    let args = c .before .before .before .before .before .before .args in
+    let rows = c .before .before .before .before .before .before .pre .0 in
+    let few = c .before .before .before .before .before .before .pre .1 in
+    let from-room : args .source * 64 + 64 ≤ length (args .from .now) = omega (arith, rows .0, few .1) in
+    let to-room : args .sink * 64 + 64 ≤ length (args .to .now) = omega (arith, rows .1, few .2) in
+    let from-size = row-size (args .source) (args .from .now) from-room in
+    let to-size = row-size (args .sink) (args .to .now) to-room in
+    let small = row-small (args .sink) (args .to .now) to-room (rows .3) in (
+      (from-size, to-size, from-size, to-size, small, small),
       (
-        omega (arith, asked .0 .1, asked .1 .0),
-        omega (arith, asked .1 .0),
-        omega (arith, c .before .before .left-of .ensures, asked .1 .0 .3),
+        (omega arith, few .3, few .0, rows .2, λ b l below limit. refl),
+        lent-covered (args .from .now) (args .to .now) (args .source) (args .sink) from-room to-room 0 (args .counts .now) (few .0) (few .4),
       ),
-      ((λ b l. asked .1 .0 .4 _ (omega (arith, asked .1 .0))), inner .before .loop .inv .2),
     )
 
-slice-aggregate-more-row : tie.Need-slice-aggregate-more-row Inv-loop μ-loop
-slice-aggregate-more-row c = sym (c .before .before .renew-row .ensures .size)
+same-length : tie.Need-same-length
+same-length c = search needs
 
-mul-more-row : tie.Need-mul-more-row Inv-loop μ-loop
-mul-more-row c = omega (arith, begin (c .before .before .before .before .before .before .before) .pre .1 .0)
-
-more-row-requires : tie.Need-more-row-requires Inv-loop μ-loop
-unfolding at
-more-row-requires c κs =
-    let inner = c .before .before .before .before .before .before .before .before in
-    let args = begin inner .args in
-    let asked = begin inner .pre in
-    let loop = inner .before .loop in
-    let below = inner .loop-test .taken in
-    let tests = c .before .before .before .renew-row .ensures in
-    let none : 0 ≡ 0 - at (args .from .now) (args .source * 64 + loop .a) = omega arith in (
-      (
-        tests .size,
-        omega (arith, asked .0 .2, loop .inv .1 .size, below),
-        omega (arith, asked .1 .0, below),
-      ),
-      (λ b l. (below-few (args .to .now) (args .sink * 64) _ tests b l, edge-covered (args .from .now) (args .to .now) (args .from .now) (args .to .now) (args .source) (args .sink) 0 (args .limit) (loop .inv .1) (asked .1 .1) below none b l .1)),
-    )
-
-add-a : tie.Need-add-a Inv-loop μ-loop
-add-a c = omega (arith, begin (c .before .before .before) .pre .1 .0)
-
-loop-less : tie.Need-loop-less Inv-loop μ-loop
-loop-less c = omega arith
-
-loop-again : tie.Need-loop-again Inv-loop μ-loop
-unfolding at
-loop-again c =
-    let inner = c .before .before .before in
-    let args = begin inner .args in
-    let loop = inner .before .loop in
-    let none : 0 ≡ 0 - at (args .from .now) (args .source * 64 + loop .a) = omega arith in
-    let Next : List ℕ → Type 0
-    = λ after.
-    EdgeShifted (args .from .now) (args .to .now) (args .from .now) (args .to .now) (args .source) (args .sink) 0 (args .limit) (loop .a + 1) (args .counts .now) after in
-    let Tests : List ℕ → ℕ → Type 0 = λ row last. BelowRow (args .to .now) (args .sink * 64) last 64 row in (
-      omega arith,
-      ⊎-elim
-          (λ w. subst Next (sym (w .9)) (edge-moved (args .from .now) (args .to .now) (args .from .now) (args .to .now) (args .source) (args .sink) 0 (args .limit) (loop .inv .1) none (c .before .left-of .ensures) (λ b l. sym (share-none (at (args .to .now) (args .sink * 64 + b)) {left = 0} refl)) (λ b l. w .2 .ensures .each b l) (w .6 .ensures)))
-          (λ w. subst Next (sym (w .1)) (edge-passed (args .from .now) (args .to .now) (args .from .now) (args .to .now) (args .source) (args .sink) 0 (args .limit) (loop .inv .1) {fell = 0} none (c .before .left-of .ensures) (λ b l below few. refl) (omega (arith, w .0 .left), omega (arith, w .0 .left))))
-          (c .if1 .came),
-      ⊎-elim
-          (λ w. subst (λ (row : List ℕ). Tests row (c .if1 .last)) (sym (w .10)) (subst (Tests _) (sym (w .11)) (w .2 .ensures)))
-          (λ w. subst (λ (row : List ℕ). Tests row (c .if1 .last)) (sym (w .2)) (subst (Tests _) (sym (w .3)) (loop .inv .2)))
-          (c .if1 .came),
-    )
-
-same-length : tie.Need-same-length Inv-loop μ-loop
-same-length c = c .before .loop .inv .1 .size
-
-returns : tie.Need-returns Inv-loop μ-loop
+returns : tie.Need-returns
 returns c =
-    let args = c .before .before .before .before .before .args in
-    let whole : c .before .loop .a ≡ args .tasks = omega arith in
-    subst (λ (a : ℕ). EdgeShifted (args .from .now) (args .to .now) (args .from .now) (args .to .now) (args .source) (args .sink) 0 (args .limit) a (args .counts .now) (c .before .loop .counts)) whole (c .before .loop .inv .1)
+    let args = c .before .before .before .before .before .before .before .before .before .args in
+    let rows = c .before .before .before .before .before .before .before .before .before .pre .0 in
+    let few = c .before .before .before .before .before .before .before .before .before .pre .1 in
+    let from-room : args .source * 64 + 64 ≤ length (args .from .now) = omega (arith, rows .0, few .1) in
+    let to-room : args .sink * 64 + 64 ≤ length (args .to .now) = omega (arith, rows .1, few .2) in
+    let from-is = row-at (args .source) (args .from .now) from-room in
+    let to-is = row-at (args .sink) (args .to .now) to-room in
+    edge-as (few .0) refl from-is to-is from-is to-is (c .before .before .shift-edge .ensures)
 
 pub count-edge-spec : {M : Type 1} → statement M
 count-edge-spec =
     tie.close
     (tie.spec
-    Inv-loop
-    μ-loop
-    loop-holds
-    mul-left-of
-    add-left-of
-    mul-left-of-2
-    shared-slice-read-left-of
-    left-of-requires
-    mul-renew-row
-    slice-aggregate-renew-row
-    renew-row-requires
-    slice-aggregate-more-row
-    mul-more-row
-    more-row-requires
-    add-a
-    loop-less
-    loop-again
+    mul-s
+    mul-t
+    add-before
+    mul-before
+    sub-before
+    part-before-start
+    part-before-end
+    add-after
+    mul-after
+    sub-after
+    part-after-start
+    part-after-end
+    shift-edge-requires
     same-length
     returns)

@@ -6,8 +6,9 @@ use lib.ListN.{length}
 use Rattle.model.specs.Lists.{tabulate}
 use Rattle.records.specs.Columns.{at, heldEdge, edgesOf}
 use Rattle.records.proofs.Edges.{edge-in}
+use Rattle.records.proofs.Fill.{length-tabulate}
 use Rattle.counts.specs.Counts.{CountsOf}
-use Rattle.counts.proofs.Totals.{counts-none, counts-covered, counts-more}
+use Rattle.counts.proofs.Totals.{counts-covered, first-none, first-counted}
 use Rattle.counts.proofs.count_edges.Statement.{statement}
 use Rattle.counts.proofs.count_edges.Tie as tie
 
@@ -22,7 +23,7 @@ loop-holds : tie.Need-loop-holds Inv-loop μ-loop
 loop-holds c =
     let args = c .before .before .before .before .before .before .args in
     let asked = c .before .before .before .before .before .before .pre in
-    (omega arith, counts-none (args .source .now) (args .sink .now) (args .delay .now) (args .tasks) (args .from .now) (args .to .now) (asked .1 .0 .2) (asked .1 .1 .1 .1), refl)
+    (omega arith, first-none (args .source .now) (args .sink .now) (args .delay .now) (args .tasks) (args .from .now) (args .to .now) (asked .1 .0 .2) (asked .1 .1 .1 .1), refl)
 
 shared-slice-read-count-edge : tie.Need-shared-slice-read-count-edge Inv-loop μ-loop
 shared-slice-read-count-edge c = omega (arith, c .before .before .before .before .before .before .before .before .before .pre .0)
@@ -53,11 +54,14 @@ count-edge-requires c κs =
     let loop = c .before .before .before .before .before .loop in
     let below = c .before .before .before .before .loop-test .taken in
     let ends = asked .1 .1 .0 .1 (heldEdge (args .source .now) (args .sink .now) (args .delay .now) (loop .j)) (edge-in (args .source .now) (args .sink .now) (args .delay .now) (loop .j) below) in
-    let few = asked .1 .1 .0 .0 in (
-      (asked .1 .0 .0, asked .1 .0 .1, loop .inv .1 .size),
+    let many = length-tabulate (loop .j) (heldEdge (args .source .now) (args .sink .now) (args .delay .now)) in (
+      (asked .1 .0 .0, asked .1 .0 .1, loop .inv .1 .size, asked .1 .1 .1 .0),
       (
-        (few, ends .0, ends .1, omega (arith, c .before .shared-slice-known8 .given (loop .j)), asked .1 .1 .1 .0),
-        counts-covered (args .source .now) (args .sink .now) (args .delay .now) (args .tasks) (args .from .now) (args .to .now) (loop .j) (loop .inv .1) (omega (arith, asked .0, below)) _ _,
+        asked .1 .1 .0 .0,
+        ends .0,
+        ends .1,
+        omega (arith, c .before .shared-slice-known8 .given (loop .j)),
+        counts-covered (loop .inv .1) (omega (arith, many, asked .0, below)) _ _,
       ),
     )
 
@@ -70,11 +74,9 @@ loop-less c = omega arith
 loop-again : tie.Need-loop-again Inv-loop μ-loop
 unfolding at
 loop-again c =
-    let args = c .before .before .before .before .before .before .before .before .before .before .before .before .before .before .before .args in (
-      omega arith,
-      counts-more (args .source .now) (args .sink .now) (args .delay .now) (args .tasks) (args .from .now) (args .to .now) (c .before .before .before .before .before .before .before .before .loop .j) (c .before .before .before .before .before .before .before .before .loop .inv .1) (c .before .before .count-edge .ensures),
-      c .before .before .count-edge .ensures .size ∙ c .before .before .before .before .before .before .before .before .loop .inv .2,
-    )
+    let args = c .before .before .before .before .before .before .before .before .before .before .before .before .before .before .before .args in
+    let counted = c .before .before .count-edge .ensures in
+    (omega arith, first-counted (args .source .now) (args .sink .now) (args .delay .now) (args .tasks) (args .from .now) (args .to .now) (c .before .before .before .before .before .before .before .before .loop .j) (c .before .before .before .before .before .before .before .before .loop .inv .1) counted, counted .size ∙ c .before .before .before .before .before .before .before .before .loop .inv .2)
 
 same-length : tie.Need-same-length Inv-loop μ-loop
 same-length c = c .before .loop .inv .2
@@ -84,8 +86,7 @@ unfolding edgesOf
 returns c =
     let args = c .before .before .before .before .before .before .before .before .args in
     let whole : c .before .loop .j ≡ length (args .source .now) = omega arith in
-    subst (λ (j : ℕ). CountsOf (args .tasks) (args .from .now) (args .to .now) (tabulate j (heldEdge (args .source .now) (args .sink .now) (args .delay .now))) (c .before .loop .counts))
-    whole (c .before .loop .inv .1)
+    subst (λ (j : ℕ). CountsOf (args .tasks) (args .from .now) (args .to .now) (tabulate j (heldEdge (args .source .now) (args .sink .now) (args .delay .now))) (c .before .loop .counts)) whole (c .before .loop .inv .1)
 
 pub count-edges-spec : {M : Type 1} → statement M
 count-edges-spec =

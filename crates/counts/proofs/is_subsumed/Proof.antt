@@ -2,7 +2,7 @@
 use mathlib.Core.Path.{refl}
 use native.Mathlib.Omega.{arith}
 use borrow.Author.Needs.{needs}
-use Prim.Native.Nat.{_+_, _*_, _<_}
+use Prim.Native.Nat.{_+_, _*_}
 use Rattle.records.specs.Columns.{at}
 use Rattle.counts.specs.Counts.{subsumesBy}
 use Rattle.counts.proofs.is_subsumed.Statement.{statement}

@@ -1,6 +1,6 @@
--- `counts::left_row` meets its contract: after a steps the first a numbers are what is left.
+-- `counts::left_row` meets its contract: after a steps the first a delays are taken off.
 use mathlib.Core.Path.{_≡_, sym, _∙_, subst}
-use Prim.Native.Nat.{ℕ, _+_, _-_, _≤_, _<_}
+use Prim.Native.Nat.{ℕ, _-_, _≤_}
 use native.Mathlib.Omega.{arith}
 use borrow.Author.Needs.{needs}
 use Rattle.records.specs.Columns.{at}
@@ -10,27 +10,19 @@ use Rattle.counts.proofs.left_row.Statement.{statement}
 use Rattle.counts.proofs.left_row.Tie as tie
 
 abbrev Inv-loop : tie.InvT-loop
-Inv-loop delays start limit left₀ a₀ left a = (a ≤ 64) × LeftRow delays start limit a left
+Inv-loop delays limit left₀ a₀ left a = (a ≤ 64) × LeftRow delays limit a left
 
 abbrev μ-loop : tie.MeasureT-loop
-μ-loop delays start limit left₀ a₀ left a = 64 - a
-
-abbrev begin : tie.In-loop Inv-loop μ-loop → tie.Start Inv-loop μ-loop
-begin c = c .before .before .before .before
+μ-loop delays limit left₀ a₀ left a = 64 - a
 
 loop-holds : tie.Need-loop-holds Inv-loop μ-loop
-loop-holds c =
-    let args = c .before .before .args in
-    (omega arith, left-none (args .delays .now) (args .start) (args .limit) (args .left .now) (c .before .before .pre .2))
-
-add-left-of : tie.Need-add-left-of Inv-loop μ-loop
-add-left-of c = omega (arith, begin c .pre)
+loop-holds c = (omega arith, left-none (c .before .before .args .delays .now) (c .before .before .args .limit) (c .before .before .args .left .now) (c .before .before .pre .1))
 
 mul-left-of : tie.Need-mul-left-of Inv-loop μ-loop
-mul-left-of c = omega (arith, begin c .pre)
+mul-left-of c = omega arith
 
 shared-slice-read-left-of : tie.Need-shared-slice-read-left-of Inv-loop μ-loop
-shared-slice-read-left-of c = omega (arith, begin (c .before) .pre)
+shared-slice-read-left-of c = omega (arith, c .before .before .before .before .before .pre .0)
 
 left-of-requires : tie.Need-left-of-requires Inv-loop μ-loop
 left-of-requires c κs = search needs
@@ -49,19 +41,15 @@ loop-less c = omega arith
 
 loop-again : tie.Need-loop-again Inv-loop μ-loop
 unfolding at
-loop-again c =
-    let inner = c .before .before in
-    let args = begin inner .args in
-    (omega arith, left-more (args .delays .now) (args .start) (args .limit) (c .left-of .result) (inner .before .loop .inv .1) (omega arith) (c .left-of .ensures))
+loop-again c = (omega arith, left-more (c .before .before .before .before .before .before .args .delays .now) (c .before .before .before .before .before .before .args .limit) (c .left-of .result) (c .before .before .before .loop .inv .1) (omega arith) (c .left-of .ensures))
 
 same-length : tie.Need-same-length Inv-loop μ-loop
-same-length c = c .before .loop .inv .1 .size ∙ sym (c .before .before .before .before .pre .2)
+same-length c = c .before .loop .inv .1 .size ∙ sym (c .before .before .before .before .pre .1)
 
 returns : tie.Need-returns Inv-loop μ-loop
 returns c =
-    let args = c .before .before .before .before .args in
     let whole : c .before .loop .a ≡ 64 = omega arith in
-    subst (λ (a : ℕ). LeftRow (args .delays .now) (args .start) (args .limit) a (c .before .loop .left)) whole (c .before .loop .inv .1)
+    subst (λ (many : ℕ). LeftRow (c .before .before .before .before .args .delays .now) (c .before .before .before .before .args .limit) many (c .before .loop .left)) whole (c .before .loop .inv .1)
 
 pub left-row-spec : {M : Type 1} → statement M
 left-row-spec =
@@ -70,7 +58,6 @@ left-row-spec =
     Inv-loop
     μ-loop
     loop-holds
-    add-left-of
     mul-left-of
     shared-slice-read-left-of
     left-of-requires

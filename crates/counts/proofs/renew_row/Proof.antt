@@ -20,7 +20,7 @@ returns-2 : tie.Need-returns-2
 returns-2 c =
     let args = c .before .before .before .args in
     let same : args .last ≡ args .limit = omega arith in
-    subst (λ (limit : ℕ). BelowRow (args .delays .now) (args .start) limit 64 (args .row .now)) same (c .before .before .before .pre .1 .1)
+    subst (λ (limit : ℕ). BelowRow (args .delays .now) limit 64 (args .row .now)) same (c .before .before .before .pre .3)
 
 pub renew-row-spec : {M : Type 1} → statement M
 renew-row-spec = tie.close (tie.spec row-below-requires same-length returns returns-2)

@@ -9,33 +9,23 @@ use Rattle.counts.proofs.row_below.Statement.{statement}
 use Rattle.counts.proofs.row_below.Tie as tie
 
 abbrev Inv-loop : tie.InvT-loop
-Inv-loop delays start limit row₀ b₀ row b = (b ≤ 64) × BelowRow delays start limit b row
+Inv-loop delays limit row₀ b₀ row b = (b ≤ 64) × BelowRow delays limit b row
 
 abbrev μ-loop : tie.MeasureT-loop
-μ-loop delays start limit row₀ b₀ row b = 64 - b
-
-abbrev begin : tie.In-loop Inv-loop μ-loop → tie.Start Inv-loop μ-loop
-begin c = c .before .before .before .before
+μ-loop delays limit row₀ b₀ row b = 64 - b
 
 loop-holds : tie.Need-loop-holds Inv-loop μ-loop
-loop-holds c =
-    let args = c .before .before .args in
-    (omega arith, below-none (args .delays .now) (args .start) (args .limit) (args .row .now) (c .before .before .pre .0 .3))
-
-add-below : tie.Need-add-below Inv-loop μ-loop
-add-below c = omega (arith, begin c .pre .0)
+loop-holds c = (omega arith, below-none (c .before .before .args .delays .now) (c .before .before .args .limit) (c .before .before .args .row .now) (c .before .before .pre .2))
 
 mul-below : tie.Need-mul-below Inv-loop μ-loop
-mul-below c = omega (arith, begin c .pre .0)
+mul-below c = omega arith
 
 shared-slice-read-below : tie.Need-shared-slice-read-below Inv-loop μ-loop
-shared-slice-read-below c = omega (arith, begin (c .before) .pre .0)
+shared-slice-read-below c = omega (arith, c .before .before .before .before .before .pre .0)
 
 below-requires : tie.Need-below-requires Inv-loop μ-loop
 unfolding at
-below-requires c κs =
-    let inner = c .before in
-    (omega (arith, begin inner .pre .1 (inner .before .loop .b) (omega arith)), omega (arith, begin inner .pre .0 .2))
+below-requires c κs = (omega (arith, c .before .before .before .before .before .pre .3 (c .before .before .loop .b)), omega (arith, c .before .before .before .before .before .pre .1))
 
 mul-row : tie.Need-mul-row Inv-loop μ-loop
 mul-row c = omega arith
@@ -51,19 +41,15 @@ loop-less c = omega arith
 
 loop-again : tie.Need-loop-again Inv-loop μ-loop
 unfolding at
-loop-again c =
-    let inner = c .before .before in
-    let args = begin inner .args in
-    (omega arith, below-more (args .delays .now) (args .start) (args .limit) (c .below .result) (inner .before .loop .inv .1) (omega arith) (c .below .ensures))
+loop-again c = (omega arith, below-more (c .before .before .before .before .before .before .args .delays .now) (c .before .before .before .before .before .before .args .limit) (c .below .result) (c .before .before .before .loop .inv .1) (omega arith) (c .below .ensures))
 
 same-length : tie.Need-same-length Inv-loop μ-loop
-same-length c = c .before .loop .inv .1 .size ∙ sym (c .before .before .before .before .pre .0 .3)
+same-length c = c .before .loop .inv .1 .size ∙ sym (c .before .before .before .before .pre .2)
 
 returns : tie.Need-returns Inv-loop μ-loop
 returns c =
-    let args = c .before .before .before .before .args in
     let whole : c .before .loop .b ≡ 64 = omega arith in
-    subst (λ (many : ℕ). BelowRow (args .delays .now) (args .start) (args .limit) many (c .before .loop .row)) whole (c .before .loop .inv .1)
+    subst (λ (many : ℕ). BelowRow (c .before .before .before .before .args .delays .now) (c .before .before .before .before .args .limit) many (c .before .loop .row)) whole (c .before .loop .inv .1)
 
 pub row-below-spec : {M : Type 1} → statement M
 row-below-spec =
@@ -72,7 +58,6 @@ row-below-spec =
     Inv-loop
     μ-loop
     loop-holds
-    add-below
     mul-below
     shared-slice-read-below
     below-requires

@@ -1,18 +1,30 @@
--- `plans::planned` meets its contract: either table has room for the least delays between all tasks.
+-- `plans::planned` meets its contract: the first stage, and the steps from it. The table has room for the least delays between all tasks.
 use native.Mathlib.Nat.{mul-le-mul}
-use Rattle.plans.proofs.Beginning.{few-tasks}
+use Rattle.plans.proofs.Beginning.{few-tasks, listed, started}
 use borrow.Author.Needs.{needs}
 use Rattle.plans.proofs.planned.Statement.{statement}
 use Rattle.plans.proofs.planned.Tie as tie
 
-slice-aggregate-plan-by : tie.Need-slice-aggregate-plan-by
-slice-aggregate-plan-by c = search needs
+slice-aggregate-first-stage : tie.Need-slice-aggregate-first-stage
+slice-aggregate-first-stage c = search needs
 
-plan-by-requires : tie.Need-plan-by-requires
-plan-by-requires c κs =
-    let asked = c .before .before .before .before .before .before .before .before .before .before .before .before .before .pre in
-    let few = c .before .before .before .before .if1 .taken in
-    (asked .0, (asked .1 .0, ((asked .1 .1 .0, mul-le-mul few few), asked .1 .1 .1)))
+first-stage-requires : tie.Need-first-stage-requires
+first-stage-requires c κs =
+    let asked = c .before .before .before .before .before .before .before .before .before .before .before .before .pre in
+    let lent = asked .1 .0 .1 in
+    let few = few-tasks lent in
+    (asked .0, ((asked .1 .0 .0, listed lent), ((asked .1 .1 .0, mul-le-mul few few), asked .1 .1 .1)))
+
+slice-aggregate-plan-from : tie.Need-slice-aggregate-plan-from
+slice-aggregate-plan-from c = search needs
+
+plan-from-requires : tie.Need-plan-from-requires
+plan-from-requires c κs =
+    let asked = c .before .before .before .before .before .before .before .before .before .before .before .before .before .before .before .before .before .before .before .before .before .before .before .before .pre in
+    let g = asked .1 .0 .0 in
+    let lent = asked .1 .0 .1 in
+    let stage = c .before .before .before .before .before .before .before .before .before .before .before .first-stage .ensures in
+    (asked .0, (g, started lent (stage .0 g (listed lent)) _ (stage .1 g (listed lent))))
 
 same-length : tie.Need-same-length
 same-length c = search needs
@@ -24,42 +36,20 @@ same-length-3 : tie.Need-same-length-3
 same-length-3 c = search needs
 
 returns : tie.Need-returns
-returns c = search needs
-
-slice-aggregate-plan-by-2 : tie.Need-slice-aggregate-plan-by-2
-slice-aggregate-plan-by-2 c = search needs
-
-plan-by-requires-2 : tie.Need-plan-by-requires-2
-plan-by-requires-2 c κs =
-    let asked = c .before .before .before .before .before .before .before .before .before .before .before .before .before .pre in
-    let few = few-tasks (asked .1 .0 .1) in
-    (asked .0, (asked .1 .0, ((asked .1 .1 .0, mul-le-mul few few), asked .1 .1 .1)))
-
-same-length-4 : tie.Need-same-length-4
-same-length-4 c = search needs
-
-same-length-5 : tie.Need-same-length-5
-same-length-5 c = search needs
-
-same-length-6 : tie.Need-same-length-6
-same-length-6 c = search needs
-
-returns-2 : tie.Need-returns-2
-returns-2 c = search needs
+returns c =
+    λ g lent.
+    let stage = c .before .before .before .before .before .before .before .before .before .before .before .before .before .before .before .before .before .before .before .first-stage .ensures in
+    c .before .before .before .before .before .before .before .plan-from .ensures g (started lent (stage .0 g (listed lent)) _ (stage .1 g (listed lent)))
 
 pub planned-spec : {M : Type 1} → statement M
 planned-spec =
     tie.close
     (tie.spec
-    slice-aggregate-plan-by
-    plan-by-requires
+    slice-aggregate-first-stage
+    first-stage-requires
+    slice-aggregate-plan-from
+    plan-from-requires
     same-length
     same-length-2
     same-length-3
-    returns
-    slice-aggregate-plan-by-2
-    plan-by-requires-2
-    same-length-4
-    same-length-5
-    same-length-6
-    returns-2)
+    returns)

@@ -1,14 +1,11 @@
 -- `prepared::start` meets its contract: the graph's table with 0 on its diagonal is spread by rows and by columns, and the edges of the first stage are counted
--- by the delays so made, unless no pair without a path back leads to a task into which pairs may subsume two of them.
-use mathlib.Core.Path.{refl, sym}
-use mathlib.Core.Bool.{true≢false}
+-- by the delays so made.
 use native.Mathlib.Omega.{arith}
 use Prim.Native.Nat.{ℕ, _-_, _*_}
 use borrow.Author.Needs.{needs}
 use borrow.Rule.Slice.PartMut.{same-len-mid}
 use Rattle.prepared.proofs.FirstReady.{first-ready}
-use Rattle.prepared.proofs.Pairless.{refused, no-pair, counted-few}
-use Rattle.prepared.proofs.Starting.{blank-small, few-tasks, square-small, square-within, front-size, zeroed-within, counted-front, row-place, column-place, stage-few, stage-ends, stage-sinks, counts-held}
+use Rattle.prepared.proofs.Starting.{blank-small, few-tasks, square-small, square-within, front-size, zeroed-within, counted-front, row-place, column-place, stage-few, stage-ends, counts-held}
 use Rattle.prepared.proofs.start.Statement.{statement}
 use Rattle.prepared.proofs.start.Tie as tie
 
@@ -78,31 +75,26 @@ spread-requires-2 c κs =
       column-place (given .1) (given .2) (given .4 .0) (given .4 .1) (c .before .before .before .before .before .before .before .before .before .before .before .zero-diagonal .ensures) _,
     )
 
-slice-aggregate-most-by-sink : tie.Need-slice-aggregate-most-by-sink
-slice-aggregate-most-by-sink c = search needs
-
-most-by-sink-requires : tie.Need-most-by-sink-requires
-most-by-sink-requires c κs =
-    let start = c .before .before .before .before .before .before .before .before .before .before .before .before .before .before .before .before .before .before .before .before .before .before .before .before .before in
+count-edges-requires : tie.Need-count-edges-requires
+count-edges-requires c κs =
+    let start = c .before .before .before .before .before .before .before .before .before .before .before .before .before .before .before .before .before .before .before .before .before .before .before .before .before .before in
     let given = start .pre .1 .0 in
     let args = start .args in
-    let as-long = start .pre .0 .0 in
     let few = stage-few (given .1) (given .2) (args .source .now) (args .sink .now) (args .delay .now) (given .3) in
-    let by-sink = c .before .before .before .before .spread2 .ensures in (
-      (omega (arith, start .pre .0), omega (arith, few, as-long), few-tasks (given .1) (given .2), by-sink .size),
-      (λ i l. by-sink .small i, stage-sinks (given .1) (given .2) (args .source .now) (args .sink .now) (args .delay .now) (given .3) as-long, refl),
+    let by-source = c .before .before .before .before .before .before .before .before .before .before .before .spread .ensures in
+    let by-sink = c .before .before .before .before .before .spread2 .ensures in
+    let ends = stage-ends (given .1) (given .2) (args .source .now) (args .sink .now) (args .delay .now) (given .3) in (
+      (start .pre .0 .0, start .pre .0 .1, few),
+      (
+        (by-source .size, by-sink .size, start .pre .1 .1 .0 .2),
+        ((few-tasks (given .1) (given .2), ends), (by-sink .small, start .pre .1 .1 .1 .2)),
+      ),
     )
 
-slice-aggregate-has-sink : tie.Need-slice-aggregate-has-sink
-slice-aggregate-has-sink c = sym (c .before .before .most-by-sink .ensures .size)
-
-has-sink-requires : tie.Need-has-sink-requires
-has-sink-requires c κs =
-    let given = c .before .before .before .before .before .before .before .before .before .before .before .before .before .before .before .before .before .before .before .before .before .before .before .before .before .before .before .before .before .pre .1 .0 in
-    (few-tasks (given .1) (given .2), c .before .before .before .most-by-sink .ensures .size, c .before .before .before .before .before .before .before .before .spread2 .ensures .size)
-
 same-length : tie.Need-same-length
-same-length c = search needs
+same-length c =
+    let args = c .before .before .before .before .before .before .before .before .before .before .before .before .before .before .before .before .before .before .before .before .before .before .before .before .before .before .before .before .before .args in
+    same-len-mid {X = ℕ} 0 (args .tasks * args .tasks - 0) (args .table .now) (c .before .before .before .before .before .before .before .before .before .before .before .before .before .before .before .before .before .before .before .before .zero-diagonal .last .0) (c .before .before .before .before .before .before .before .before .before .before .before .before .before .before .before .before .before .before .before .before .zero-diagonal .kept .0)
 
 same-length-2 : tie.Need-same-length-2
 same-length-2 c = search needs
@@ -110,62 +102,14 @@ same-length-2 c = search needs
 same-length-3 : tie.Need-same-length-3
 same-length-3 c = search needs
 
-returns : tie.Need-returns
-returns c = (
-  λ yes. absurd (true≢false (sym yes)),
-  λ no g accepted same held past is.
-      let start = c .before .before .before .before .before .before .before .before .before .before .before .before .before .before .before .before .before .before .before .before .before .before .before .before .before .before .before .before .before .before .before in
-      let args = start .args in
-      let counted = counted-front accepted same past is (c .before .before .before .before .before .before .before .before .before .before .before .before .before .before .before .before .before .before .before .before .before .before .zero-diagonal .ensures) _ in
-      let by-source = c .before .before .before .before .before .before .before .before .before .before .before .before .before .before .before .before .spread .ensures in
-      let by-sink = c .before .before .before .before .before .before .before .before .before .before .spread2 .ensures in
-      no-pair accepted same (args .source .now) (args .sink .now) (args .delay .now) (start .pre .0 .0) held counted by-source by-sink (c .before .before .before .before .before .most-by-sink .ensures) ((c .before .has-sink .ensures) (refused _ (c .if1 .taken))),
-)
-
-count-edges-requires : tie.Need-count-edges-requires
-count-edges-requires c κs =
-    let start = c .before .before .before .before .before .before .before .before .before .before .before .before .before .before .before .before .before .before .before .before .before .before .before .before .before .before .before .before .before .before .before .before .before .before in
-    let given = start .pre .1 .0 in
-    let args = start .args in
-    let few = stage-few (given .1) (given .2) (args .source .now) (args .sink .now) (args .delay .now) (given .3) in
-    let by-source = c .before .before .before .before .before .before .before .before .before .before .before .before .before .before .before .before .before .before .before .spread .ensures in
-    let by-sink = c .before .before .before .before .before .before .before .before .before .before .before .before .before .spread2 .ensures in
-    let ends = stage-ends (given .1) (given .2) (args .source .now) (args .sink .now) (args .delay .now) (given .3) in (
-      (start .pre .0 .0, start .pre .0 .1, few),
-      (
-        (by-source .size, by-sink .size, start .pre .1 .1 .0 .2),
-        ((few-tasks (given .1) (given .2), ends), (λ i l. by-sink .small i, start .pre .1 .1 .1 .2)),
-      ),
-    )
-
-has-pair-requires : tie.Need-has-pair-requires
-has-pair-requires c κs =
-    let given = c .before .before .before .before .before .before .before .before .before .before .before .before .before .before .before .before .before .before .before .before .before .before .before .before .before .before .before .before .before .before .before .before .before .before .before .before .before .before .before .pre .1 .0 in
-    (few-tasks (given .1) (given .2), c .before .before .before .before .count-edges .ensures .size, c .before .before .before .before .before .before .before .before .before .before .before .before .before .before .before .before .before .before .spread2 .ensures .size)
-
 same-length-4 : tie.Need-same-length-4
-same-length-4 c =
-    let args = c .before .before .before .before .before .before .before .before .before .before .before .before .before .before .before .before .before .before .before .before .before .before .before .before .before .before .before .before .before .before .before .before .before .before .before .before .before .before .before .before .args in
-    same-len-mid {X = ℕ} 0 (args .tasks * args .tasks - 0) (args .table .now) (c .before .before .before .before .before .before .before .before .before .before .before .before .before .before .before .before .before .before .before .before .before .before .before .before .before .before .before .before .before .before .before .zero-diagonal .last .0) (c .before .before .before .before .before .before .before .before .before .before .before .before .before .before .before .before .before .before .before .before .before .before .before .before .before .before .before .before .before .before .before .zero-diagonal .kept .0)
+same-length-4 c = search needs
 
-same-length-5 : tie.Need-same-length-5
-same-length-5 c = search needs
-
-same-length-6 : tie.Need-same-length-6
-same-length-6 c = search needs
-
-same-length-7 : tie.Need-same-length-7
-same-length-7 c = search needs
-
-returns-2 : tie.Need-returns-2
-returns-2 c = (
-  λ yes g accepted same held past is.
-      let counted = counted-front accepted same past is (c .before .before .before .before .before .before .before .before .before .before .before .before .before .before .before .before .before .before .before .before .before .before .before .before .before .before .before .before .before .before .before .zero-diagonal .ensures) _ in
-      first-ready accepted same counted (c .before .before .before .before .before .before .before .before .before .before .before .before .before .before .before .before .before .before .before .before .before .before .before .before .before .spread .ensures) (c .before .before .before .before .before .before .before .before .before .before .before .before .before .before .before .before .before .before .before .spread2 .ensures) (counts-held held (c .before .before .before .before .before .count-edges .ensures)),
-  λ no g accepted same held past is.
-      let counted = counted-front accepted same past is (c .before .before .before .before .before .before .before .before .before .before .before .before .before .before .before .before .before .before .before .before .before .before .before .before .before .before .before .before .before .before .before .zero-diagonal .ensures) _ in
-      counted-few same (first-ready accepted same counted (c .before .before .before .before .before .before .before .before .before .before .before .before .before .before .before .before .before .before .before .before .before .before .before .before .before .spread .ensures) (c .before .before .before .before .before .before .before .before .before .before .before .before .before .before .before .before .before .before .before .spread2 .ensures) (counts-held held (c .before .before .before .before .before .count-edges .ensures))) ((c .has-pair .ensures) no),
-)
+returns : tie.Need-returns
+returns c =
+    λ g accepted same held past is.
+    let counted = counted-front accepted same past is (c .before .before .before .before .before .before .before .before .before .before .before .before .before .before .before .before .before .before .before .before .zero-diagonal .ensures) _ in
+    first-ready accepted same counted (c .before .before .before .before .before .before .before .before .before .before .before .before .before .before .spread .ensures) (c .before .before .before .before .before .before .before .before .spread2 .ensures) (counts-held held (c .before .before .count-edges .ensures))
 
 pub start-spec : {M : Type 1} → statement M
 start-spec =
@@ -184,18 +128,9 @@ start-spec =
     part-spread-start-2
     part-spread-end-2
     spread-requires-2
-    slice-aggregate-most-by-sink
-    most-by-sink-requires
-    slice-aggregate-has-sink
-    has-sink-requires
+    count-edges-requires
     same-length
     same-length-2
     same-length-3
-    returns
-    count-edges-requires
-    has-pair-requires
     same-length-4
-    same-length-5
-    same-length-6
-    same-length-7
-    returns-2)
+    returns)

@@ -1,138 +1,90 @@
--- `redundancy::redundant_marks` meets its contract: each edge's source is one of 64 tasks, so all edges go into chains; from these the crowded tasks, if
--- there are any, get their rows, and by both the marks are made.
-use mathlib.Core.Path.{refl}
-use Prim.Native.Nat.{ℕ}
+-- `redundancy::redundant_marks` meets its contract: the last steps are taken into a square with room for 64 tasks, then four words of 64 marks each are made by it.
+use mathlib.Core.Path.{refl, sym, _∙_}
+use mathlib.Core.List.{[], _∷_}
 use native.Mathlib.Omega.{arith}
 use borrow.Author.Needs.{needs}
-use lib.ListN.{length-replicate}
+use Rattle.marks.specs.Marks.{wordOf, marksOf}
 use Rattle.redundancy.specs.Redundancy.{Tabled}
-use Rattle.redundancy.proofs.Linked.{ends-below}
-use Rattle.redundancy.proofs.Rows.{no-crowds}
+use Rattle.redundancy.proofs.Rule.{fit-turned}
 use Rattle.redundancy.proofs.redundant_marks.Statement.{statement}
 use Rattle.redundancy.proofs.redundant_marks.Tie as tie
 
-tabled : (c : tie.Start) → Tabled (c .args .tasks) (c .args .source .now) (c .args .sink .now) (c .args .delay .now) (c .args .table .now)
-tabled c = record {
-  sinks = c .pre .0 .0;
-  delays = c .pre .0 .1;
-  few = c .pre .1 .0 .0;
-  fit = c .pre .1 .1 .0;
-  least = c .pre .1 .1 .1;
-}
+abbrev start : tie.After-take-steps → tie.Start
+start c = c .before .before .before .before .before .before
 
-cast-end : tie.Need-cast-end
-cast-end c = search needs
+-- with the last steps taken into the square
+tabled : (c : tie.After-take-steps) →
+    Tabled (start c .args .tasks) (start c .args .source .now) (start c .args .sink .now) (start c .args .delay .now) (start c .args .table .now)
+    (c .take-steps .last .1 .1 .1 .1 .0)
+tabled c =
+    let asked = start c .pre in
+    record {
+      sinks = asked .0 .0;
+      delays = asked .0 .1;
+      few = asked .1 .0 .0;
+      fit = asked .1 .1 .0;
+      least = asked .1 .1 .1;
+      room = c .take-steps .ensures .0;
+      steps = c .take-steps .ensures .1;
+    }
 
-slice-aggregate-chain : tie.Need-slice-aggregate-chain
-slice-aggregate-chain c = search needs
+slice-aggregate-take-steps : tie.Need-slice-aggregate-take-steps
+slice-aggregate-take-steps c = search needs
 
-slice-aggregate-chain-2 : tie.Need-slice-aggregate-chain-2
-slice-aggregate-chain-2 c = search needs
-
-slice-aggregate-chain-3 : tie.Need-slice-aggregate-chain-3
-slice-aggregate-chain-3 c = search needs
-
-chain-requires : tie.Need-chain-requires
-chain-requires c κs =
-    let start = c .before .before .before .before .before .before .before in (
-      (start .pre .1 .0 .1, refl, length-replicate {A = ℕ} 320 0, refl),
-      λ j l. omega (arith, ends-below (tabled start) j l .0, tabled start .few),
+take-steps-requires : tie.Need-take-steps-requires
+take-steps-requires c κs =
+    let from = c .before .before .before .before .before in
+    let sinks = from .pre .0 .0 in (
+      (sym sinks, from .pre .0 .1 ∙ sym sinks),
+      ((from .pre .1 .0 .0, refl), fit-turned (from .args .source .now) (from .args .sink .now) (from .args .delay .now) sinks (from .pre .1 .1 .0)),
     )
 
-slice-aggregate-most : tie.Need-slice-aggregate-most
-slice-aggregate-most c = search needs
+slice-aggregate-mark-word : tie.Need-slice-aggregate-mark-word
+slice-aggregate-mark-word c = search needs
 
-most-requires : tie.Need-most-requires
-most-requires c κs = search needs
+mark-word-requires : tie.Need-mark-word-requires
+mark-word-requires c κs = (omega arith, tabled (c .before .before))
 
-slice-aggregate-chained-marks : tie.Need-slice-aggregate-chained-marks
-slice-aggregate-chained-marks c = search needs
+slice-aggregate-mark-word-2 : tie.Need-slice-aggregate-mark-word-2
+slice-aggregate-mark-word-2 c = search needs
 
-slice-aggregate-chained-marks-2 : tie.Need-slice-aggregate-chained-marks-2
-slice-aggregate-chained-marks-2 c = search needs
+mark-word-requires-2 : tie.Need-mark-word-requires-2
+mark-word-requires-2 c κs = (omega arith, tabled (c .before .before .before .before))
 
-slice-aggregate-chained-marks-3 : tie.Need-slice-aggregate-chained-marks-3
-slice-aggregate-chained-marks-3 c = search needs
+slice-aggregate-mark-word-3 : tie.Need-slice-aggregate-mark-word-3
+slice-aggregate-mark-word-3 c = search needs
 
-slice-aggregate-chained-marks-4 : tie.Need-slice-aggregate-chained-marks-4
-slice-aggregate-chained-marks-4 c = search needs
+mark-word-requires-3 : tie.Need-mark-word-requires-3
+mark-word-requires-3 c κs = (omega arith, tabled (c .before .before .before .before .before .before))
 
-chained-marks-requires : tie.Need-chained-marks-requires
-chained-marks-requires c κs =
-    let chained = c .before .before .before .before .before .before .before .before .before .before in
-    let all = tabled (chained .before .before .before .before .before .before .before .before) in
-    (all, (chained .chain .ensures .0, no-crowds all refl))
+slice-aggregate-mark-word-4 : tie.Need-slice-aggregate-mark-word-4
+slice-aggregate-mark-word-4 c = search needs
+
+mark-word-requires-4 : tie.Need-mark-word-requires-4
+mark-word-requires-4 c κs = (omega arith, tabled (c .before .before .before .before .before .before .before .before))
 
 returns : tie.Need-returns
-returns c = c .chained-marks .ensures
-
-slice-aggregate-take-crowds : tie.Need-slice-aggregate-take-crowds
-slice-aggregate-take-crowds c = search needs
-
-slice-aggregate-take-crowds-2 : tie.Need-slice-aggregate-take-crowds-2
-slice-aggregate-take-crowds-2 c = search needs
-
-slice-aggregate-take-crowds-3 : tie.Need-slice-aggregate-take-crowds-3
-slice-aggregate-take-crowds-3 c = search needs
-
-slice-aggregate-take-crowds-4 : tie.Need-slice-aggregate-take-crowds-4
-slice-aggregate-take-crowds-4 c = search needs
-
-slice-aggregate-take-crowds-5 : tie.Need-slice-aggregate-take-crowds-5
-slice-aggregate-take-crowds-5 c = search needs
-
-take-crowds-requires : tie.Need-take-crowds-requires
-take-crowds-requires c κs =
-    let chained = c .before .before .before .before .before .before .before .before .before .before .before in
-    ((chained .chain .ensures .1, refl, refl), (tabled (chained .before .before .before .before .before .before .before .before), chained .chain .ensures .0))
-
-slice-aggregate-chained-marks-5 : tie.Need-slice-aggregate-chained-marks-5
-slice-aggregate-chained-marks-5 c = search needs
-
-slice-aggregate-chained-marks-6 : tie.Need-slice-aggregate-chained-marks-6
-slice-aggregate-chained-marks-6 c = search needs
-
-slice-aggregate-chained-marks-7 : tie.Need-slice-aggregate-chained-marks-7
-slice-aggregate-chained-marks-7 c = search needs
-
-slice-aggregate-chained-marks-8 : tie.Need-slice-aggregate-chained-marks-8
-slice-aggregate-chained-marks-8 c = search needs
-
-chained-marks-requires-2 : tie.Need-chained-marks-requires-2
-chained-marks-requires-2 c κs =
-    let crowds = c .before .before .before .before .before .before in
-    let chained = crowds .before .before .before .before .before .before .before .before .before .before .before .before in
-    (tabled (chained .before .before .before .before .before .before .before .before), (chained .chain .ensures .0, crowds .take-crowds .ensures))
-
-returns-2 : tie.Need-returns-2
-returns-2 c = c .chained-marks2 .ensures
+unfolding wordOf marksOf
+returns c = λ g held x. record {
+  words = c .before .before .before .before .before .before .mark-word .ensures g held x
+      ∷ c .before .before .before .before .mark-word2 .ensures g held x
+      ∷ c .before .before .mark-word3 .ensures g held x
+      ∷ c .mark-word4 .ensures g held x
+      ∷ [];
+}
 
 pub redundant-marks-spec : {M : Type 1} → statement M
 redundant-marks-spec =
     tie.close
     (tie.spec
-    cast-end
-    slice-aggregate-chain
-    slice-aggregate-chain-2
-    slice-aggregate-chain-3
-    chain-requires
-    slice-aggregate-most
-    most-requires
-    slice-aggregate-chained-marks
-    slice-aggregate-chained-marks-2
-    slice-aggregate-chained-marks-3
-    slice-aggregate-chained-marks-4
-    chained-marks-requires
-    returns
-    slice-aggregate-take-crowds
-    slice-aggregate-take-crowds-2
-    slice-aggregate-take-crowds-3
-    slice-aggregate-take-crowds-4
-    slice-aggregate-take-crowds-5
-    take-crowds-requires
-    slice-aggregate-chained-marks-5
-    slice-aggregate-chained-marks-6
-    slice-aggregate-chained-marks-7
-    slice-aggregate-chained-marks-8
-    chained-marks-requires-2
-    returns-2)
+    slice-aggregate-take-steps
+    take-steps-requires
+    slice-aggregate-mark-word
+    mark-word-requires
+    slice-aggregate-mark-word-2
+    mark-word-requires-2
+    slice-aggregate-mark-word-3
+    mark-word-requires-3
+    slice-aggregate-mark-word-4
+    mark-word-requires-4
+    returns)

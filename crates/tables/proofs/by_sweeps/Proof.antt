@@ -59,7 +59,7 @@ slice-aggregate-take-rows c = sym (c .before .before .sweep-rows2 .ensures .0)
 take-rows-requires : tie.Need-take-rows-requires
 take-rows-requires c κs =
     let asked = c .before .before .before .before .before .before .before .before .before .before .before .pre in
-    (asked .1 .0 .0, asked .1 .0 .1, c .before .before .before .sweep-rows2 .ensures .0)
+    (omega (arith, asked .1 .0 .0), omega (arith, asked .1 .0 .1), c .before .before .before .sweep-rows2 .ensures .0)
 
 same-length-2 : tie.Need-same-length-2
 same-length-2 c = c .before .before .take-rows .ensures .size

@@ -1,5 +1,4 @@
 -- `updates::fallen` meets its contract: below 32,768 the signed test tells whether the number fell.
-use Prim.Native.Nat.{_≤_, _<_}
 use native.Mathlib.Omega.{arith}
 use borrow.Author.Needs.{needs}
 use Rattle.delays.proofs.Signed.{signed-less, signed-not-less}

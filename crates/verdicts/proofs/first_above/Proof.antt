@@ -1,12 +1,12 @@
 -- `verdicts::first_above` meets its contract: no edge looked at so far has a delay below its entry.
 use mathlib.Core.Path.{refl, ap}
-use Prim.Native.Nat.{ℕ, _+_, _-_, _*_, _≤_, _<_}
+use Prim.Native.Nat.{ℕ, _+_, _-_, _≤_, _<_}
 use native.Mathlib.Numerals.{add-one}
 use native.Mathlib.Omega.{arith}
 use lib.ListN.{length, getD}
 use borrow.Author.Count.{below-none, below-more}
 use Rattle.verdicts.specs.Tables.{between, all-within, above}
-use Rattle.verdicts.proofs.Tables.{edge-place}
+use Rattle.ways.proofs.Steps.{edge-place}
 use Rattle.verdicts.proofs.first_above.Statement.{statement}
 use Rattle.verdicts.proofs.first_above.Tie as tie
 

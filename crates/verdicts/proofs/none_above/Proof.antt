@@ -7,7 +7,7 @@ use native.Mathlib.Omega.{arith}
 use lib.ListN.{length, getD}
 use Rattle.model.proofs.Basics.{order}
 use Rattle.verdicts.specs.Tables.{between}
-use Rattle.verdicts.proofs.Tables.{edge-place}
+use Rattle.ways.proofs.Steps.{edge-place}
 use Rattle.verdicts.proofs.none_above.Statement.{statement}
 use Rattle.verdicts.proofs.none_above.Tie as tie
 

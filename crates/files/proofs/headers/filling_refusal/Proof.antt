@@ -12,16 +12,16 @@ mul-left c = search needs
 sub-left : tie.Need-sub-left
 sub-left c = search needs
 
-field-at-requires : tie.Need-field-at-requires
-field-at-requires c κs = search needs
+field-from-requires : tie.Need-field-from-requires
+field-from-requires c κs = search needs
 
 returns : tie.Need-returns
 unfolding filling
-returns c = sym (filling-stops _ _ (λ none. c .if1 .taken (c .before .field-at .ensures ∙ none)))
+returns c = sym (filling-stops _ _ (λ none. c .if1 .taken (c .before .field-from .ensures ∙ none)))
 
 returns-2 : tie.Need-returns-2
 unfolding filling
-returns-2 c = sym (filling-passes _ _ (sym (c .before .field-at .ensures) ∙ c .if1 .left))
+returns-2 c = sym (filling-passes _ _ (sym (c .before .field-from .ensures) ∙ c .if1 .left))
 
 pub filling-refusal-spec : {M : Type 1} → statement M
-filling-refusal-spec = tie.close (tie.spec mul-left sub-left field-at-requires returns returns-2)
+filling-refusal-spec = tie.close (tie.spec mul-left sub-left field-from-requires returns returns-2)

@@ -6,7 +6,6 @@ use native.Mathlib.Omega.{arith}
 use Rattle.model.specs.Tasks.{noTask, processorOf}
 use Rattle.model.specs.Graph.{timeOf}
 use Rattle.files.specs.Files.{graphOf}
-use Rattle.records.specs.Columns.{zeros}
 use Rattle.readings.specs.Working.{workingGraph}
 use Rattle.records.proofs.Parts.{zeros-room, filled-room, within-list, column-of-take}
 use Rattle.readings.proofs.Whole.{header-tasks, task-list, edge-list}

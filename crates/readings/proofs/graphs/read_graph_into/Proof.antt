@@ -1,7 +1,7 @@
 -- `readings::graphs::read_graph_into` meets its contract: the first of the two groups of checks that refuses is the answer, with lists of zeros, else the
 -- lists are those of the graph.
 use mathlib.Core.Path.{_≡_, sym, ap, _∙_, subst}
-use Prim.Native.Nat.{ℕ, _≤_}
+use Prim.Native.Nat.{_≤_}
 use lib.ListN.{length}
 use Rattle.model.specs.Tasks.{processorOf}
 use Rattle.model.specs.Graph.{timeOf, edges}
@@ -11,7 +11,7 @@ use Rattle.records.proofs.Fill.{length-tabulate}
 use Rattle.files.specs.Refusals.{notRefused}
 use Rattle.files.specs.Files.{graphOf, edgeIn}
 use Rattle.files.proofs.First.{number-same}
-use Rattle.readings.specs.Working.{workingGraph, refusedGraph, graphFrom, graphReading}
+use Rattle.readings.specs.Working.{workingGraph, refusedGraph, graphFrom}
 use Rattle.readings.proofs.Whole.{header-tasks, header-edges}
 use Rattle.readings.proofs.Passed.{graph-frame-passed}
 use Rattle.readings.proofs.Answers.{graph-ends, graph-stops, graph-passed, graph-read}

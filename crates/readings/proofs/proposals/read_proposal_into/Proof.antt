@@ -9,7 +9,7 @@ use Rattle.records.proofs.Fill.{length-tabulate}
 use Rattle.files.specs.Refusals.{notRefused}
 use Rattle.files.specs.Files.{proposalOf, edgeIn}
 use Rattle.files.proofs.First.{number-same}
-use Rattle.readings.specs.Working.{workingProposal, refusedProposal, proposalFrom, proposalReading}
+use Rattle.readings.specs.Working.{workingProposal, refusedProposal, proposalFrom}
 use Rattle.readings.proofs.Whole.{proposal-count}
 use Rattle.readings.proofs.Passed.{proposal-frame-passed}
 use Rattle.readings.proofs.Answers.{proposal-ends, proposal-stops, proposal-passed, proposal-read}

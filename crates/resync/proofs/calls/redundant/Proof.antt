@@ -124,7 +124,7 @@ returns-2 c =
     record {
       as-many = sym (held .tasks-are);
       held = sym (held .held);
-      ends = well .syncs-formed .ends;
+      formed = well;
       no-zero-cycle = accepted s is none .1 .no-zero-cycle;
     } in
     redundant-read s is none (c .before .before .before .before .before .before .before .before .before .before .before .before .before .before .before .told .ensures) (c .before .redundant-edges .ensures (graphOf s) graph) (c .count .ensures)

@@ -1,42 +1,47 @@
--- `resync::calls::redundant_edges` meets its contract: either table has room for the delays between the tasks.
-use native.Mathlib.Nat.{mul-le-mul}
+-- `resync::calls::redundant_edges` meets its contract: the front of the table holds the least delays, by which the redundant edges are marked.
+use Prim.Native.Nat.{ℕ}
 use native.Mathlib.Omega.{arith}
+use lib.ListN.{length-replicate}
+use Rattle.records.specs.Columns.{edgesOf}
 use Rattle.records.proofs.Rows.{product-small}
+use Rattle.delays.proofs.Table.{table-front, table-room}
 use borrow.Author.Needs.{needs}
 use Rattle.resync.proofs.calls.redundant_edges.Statement.{statement}
 use Rattle.resync.proofs.calls.redundant_edges.Tie as tie
 
-slice-aggregate-marks-by : tie.Need-slice-aggregate-marks-by
-slice-aggregate-marks-by c = search needs
+slice-aggregate-least-table : tie.Need-slice-aggregate-least-table
+slice-aggregate-least-table c = search needs
 
-marks-by-requires : tie.Need-marks-by-requires
-marks-by-requires c κs =
-    let asked = c .before .before .before .before .before .before .pre in
-    let few = c .before .if1 .taken in
-    (asked .0, ((asked .1 .0 .0, asked .1 .0 .1, mul-le-mul few few, asked .1 .0 .2), asked .1 .1))
+least-table-requires : tie.Need-least-table-requires
+least-table-requires c κs = (c .before .before .before .before .before .pre .0, ((c .before .before .before .before .before .pre .1 .0 .0, omega (arith, product-small _ _ (c .before .before .before .before .before .pre .1 .0 .0) (c .before .before .before .before .before .pre .1 .0 .0), length-replicate {A = ℕ} 4096 0), c .before .before .before .before .before .pre .1 .0 .2), c .before .before .before .before .before .pre .1 .1))
+
+mul-redundant-marks : tie.Need-mul-redundant-marks
+mul-redundant-marks c = record { fits = omega (arith, product-small _ _ (c .before .before .before .before .before .before .before .pre .1 .0 .0) (c .before .before .before .before .before .before .before .pre .1 .0 .0)) }
+
+sub-redundant-marks : tie.Need-sub-redundant-marks
+sub-redundant-marks c = search needs
+
+part-redundant-marks-start : tie.Need-part-redundant-marks-start
+part-redundant-marks-start c = search needs
+
+part-redundant-marks-end : tie.Need-part-redundant-marks-end
+part-redundant-marks-end c = table-room (c .before .before .before .before .before .before .before .before .args .tasks) (edgesOf (c .before .before .before .before .before .before .before .before .args .source .now) (c .before .before .before .before .before .before .before .before .args .sink .now) (c .before .before .before .before .before .before .before .before .args .delay .now)) _ (c .before .before .least-table .ensures)
+
+redundant-marks-requires : tie.Need-redundant-marks-requires
+redundant-marks-requires c κs = (c .before .before .before .before .before .before .before .before .before .pre .0, ((c .before .before .before .before .before .before .before .before .before .pre .1 .0 .0, c .before .before .before .before .before .before .before .before .before .pre .1 .0 .1), (c .before .before .before .before .before .before .before .before .before .pre .1 .1, table-front (c .before .before .before .before .before .before .before .before .before .args .tasks) (edgesOf (c .before .before .before .before .before .before .before .before .before .args .source .now) (c .before .before .before .before .before .before .before .before .before .args .sink .now) (c .before .before .before .before .before .before .before .before .before .args .delay .now)) _ (c .before .before .before .least-table .ensures))))
 
 returns : tie.Need-returns
-returns c = c .before .marks-by .ensures
-
-slice-aggregate-marks-by-2 : tie.Need-slice-aggregate-marks-by-2
-slice-aggregate-marks-by-2 c = search needs
-
-marks-by-requires-2 : tie.Need-marks-by-requires-2
-marks-by-requires-2 c κs =
-    let asked = c .before .before .before .before .before .before .pre in
-    let few = asked .1 .0 .0 in
-    (asked .0, ((few, asked .1 .0 .1, omega (arith, product-small _ _ few few), asked .1 .0 .2), asked .1 .1))
-
-returns-2 : tie.Need-returns-2
-returns-2 c = c .before .marks-by2 .ensures
+returns c = search needs
 
 pub redundant-edges-spec : {M : Type 1} → statement M
 redundant-edges-spec =
     tie.close
     (tie.spec
-    slice-aggregate-marks-by
-    marks-by-requires
-    returns
-    slice-aggregate-marks-by-2
-    marks-by-requires-2
-    returns-2)
+    slice-aggregate-least-table
+    least-table-requires
+    mul-redundant-marks
+    sub-redundant-marks
+    part-redundant-marks-start
+    part-redundant-marks-end
+    redundant-marks-requires
+    returns)

@@ -1,11 +1,11 @@
 //! Whole answers and lists of both sides, compared on many generated files.
 
-use crate::calls::{compare, Case, CALLS};
 use checker::files::{write_graph, write_proposal, Edge, Graph, GraphFields, ProposalFields};
 use comparison::generator::damage::{BYTE_DAMAGES, GRAPH_DAMAGES, PROPOSAL_DAMAGES};
 use comparison::generator::desks::FAULTS;
 use comparison::generator::proposals::KINDS;
 use comparison::generator::Generator;
+use comparison::measured::calls::{compare, Case, CALLS};
 use resync::raw;
 
 const ROUNDS: usize = 4000;

@@ -1,27 +1,30 @@
 //! Measures the proved calls against the baseline, and prints tables in Markdown.
 //!
 //! `bench` measures, `bench --quick` with few samples; `bench --check` compares whole answers of both sides on many generated
-//! files; `bench --stack` prints the bytes of stack that each call takes.
+//! files; `bench --stack` prints the bytes of stack that each call takes; `bench --files FOLDER` writes the graph files of the example
+//! desk and the largest ones to a folder, for other programs to measure, and prints their paths.
 
-mod calls;
 mod check;
-mod desks;
-mod stack;
 mod timing;
 
-use calls::{Call, Lists, CALLS};
-use desks::Desk;
+use comparison::measured::calls::{self, Call, Lists, CALLS};
+use comparison::measured::desks::{self, Desk};
+use comparison::measured::stack;
+use std::path::Path;
+use std::{fs, io};
 use timing::{Manner, Pair};
 
 fn main() {
-    let mode = std::env::args().nth(1).unwrap_or_default();
-    match mode.as_str() {
-        "" => measure(&timing::FULL),
-        "--quick" => measure(&timing::QUICK),
-        "--check" => check::run(),
-        "--stack" => print_stack(),
-        other => {
-            eprintln!("unknown mode {other}: none, --quick, --check or --stack");
+    let words: Vec<String> = std::env::args().skip(1).collect();
+    let words: Vec<&str> = words.iter().map(String::as_str).collect();
+    match words[..] {
+        [] => measure(&timing::FULL),
+        ["--quick"] => measure(&timing::QUICK),
+        ["--check"] => check::run(),
+        ["--stack"] => print_stack(),
+        ["--files", folder] => write_files(folder.as_ref()).expect("files written"),
+        _ => {
+            eprintln!("usage: bench [--quick | --check | --stack | --files FOLDER]");
             std::process::exit(2);
         }
     }
@@ -83,7 +86,7 @@ fn growth(manner: &Manner, of: &str, desks: &[(usize, Desk)]) {
 /// Compares the answers, then measures.
 fn measure_case(manner: &Manner, call: &Call, case: &calls::Case) -> Pair {
     calls::compare(call, case);
-    let (mut proved, mut baseline) = (Lists::new(), Lists::new());
+    let (mut proved, mut baseline) = (Lists::default(), Lists::default());
     timing::measure(
         manner,
         || (call.proved)(case, &mut proved),
@@ -98,7 +101,7 @@ fn print_stack() {
         let mut most = [0; 2];
         for desk in desks::largest_and_example() {
             for case in call.cases(&desk) {
-                let mut lists = Lists::new();
+                let mut lists = Lists::default();
                 let proved = stack::taken(|| (call.proved)(&case, &mut lists));
                 let baseline = stack::taken(|| (call.baseline)(&case, &mut lists));
                 println!("| {} | {} | {proved} | {baseline} |", call.name, case.name);
@@ -107,4 +110,15 @@ fn print_stack() {
         }
         println!("| {} | most | {} | {} |", call.name, most[0], most[1]);
     }
+}
+
+/// A file for each desk, named after it.
+fn write_files(folder: &Path) -> io::Result<()> {
+    fs::create_dir_all(folder)?;
+    for desk in desks::largest_and_example() {
+        let path = folder.join(format!("{}.bin", desk.name));
+        fs::write(&path, desk.file)?;
+        println!("{}", path.display());
+    }
+    Ok(())
 }

@@ -1,0 +1,180 @@
+-- Which edges of a graph are redundant, by the table of its least delays and the square of its last steps: those with a smaller entry between their ends
+-- than their delay, and those with a sum within it.
+use mathlib.Core.Path.{_≡_, refl, sym, ap, _∙_, subst}
+use mathlib.Core.Logic.{_⊎_, inl, inr}
+use mathlib.Core.Bool.{true, false}
+use mathlib.Core.List.{List}
+use mathlib.Core.Option.{Option}
+use Prim.Native.Nat.{ℕ, suc, _+_, _*_, _≤_, _<_, min}
+use native.Mathlib.Nat.{mul-le-mul-right, suc-mul}
+use native.Mathlib.Omega.{arith}
+use lib.ListN.{length, getD}
+use Rattle.model.specs.Tasks.{Edge, _∈_, noEdge}
+use Rattle.model.specs.Graph.{Graph, count, edges}
+use Rattle.model.specs.Paths.{Least, smallest, no-path, syncAt}
+use Rattle.model.specs.Compute.{isRedundant}
+use Rattle.model.proofs.Walks.{path-ends, path-delay}
+use Rattle.model.proofs.Tests.{decides-yes, decides-no}
+use Rattle.model.proofs.Theorems.{redundant-is, least-delay-is}
+use Rattle.records.specs.Columns.{heldEdge, edgesOf}
+use Rattle.records.proofs.Ordered.{edges-count, sync-place}
+use Rattle.records.proofs.Edges.{edges-length, edge-in, edge-out, edge-at}
+use Rattle.records.proofs.Rows.{product-small}
+use Rattle.delays.specs.Delays.{entry, Fit}
+use Rattle.delays.proofs.Table.{table-length, table-at}
+use Rattle.sweeps.specs.Sweeps.{Lowest}
+use Rattle.sweeps.proofs.Over.{fit-at}
+use Rattle.redundancy.specs.Redundancy.{HeldGraph, Tabled, LeastSum}
+use Rattle.redundancy.proofs.Between.{Between, redundant-between}
+
+-- a table's entry cut at 16,383 is the least delay, or 16,383 where no path is shorter
+cut-lowest : {es : List Edge} {a b x : ℕ} {o : Option ℕ} → Least es a b o → x ≡ entry o → Lowest es a b (min x 16383)
+unfolding entry
+cut-lowest (smallest {d = d} path least) is = record {
+  held = record { small = omega arith; path = λ l. path-delay (omega arith) path };
+  least = λ k other. let low = least k other in omega arith;
+}
+cut-lowest (no-path none) is = record {
+  held = record { small = omega arith; path = λ l. absurd (omega arith) };
+  least = λ k other. absurd (none k other);
+}
+
+-- edges between n tasks turned round are edges between them
+pub fit-turned : (source sink delay : List ℕ) {n : ℕ} → length sink ≡ length source → Fit n (edgesOf source sink delay) → Fit n (edgesOf sink source delay)
+unfolding heldEdge
+fit-turned source sink delay {n} sinks fit = record {
+  ends = λ e m. subst (λ (f : Edge). (f .source < n) × (f .sink < n)) (sym (at e m .0)) (at e m .2, at e m .1);
+  delays = λ e m. subst (λ (f : Edge). f .delay ≤ 255) (sym (at e m .0)) (at e m .3);
+}
+  where
+    at : (e : Edge) (m : e ∈ edgesOf sink source delay) →
+        (e ≡ heldEdge sink source delay (edge-out sink source delay e m .0)) × (getD source (edge-out sink source delay e m .0) 0 < n)
+        × (getD sink (edge-out sink source delay e m .0) 0 < n) × (getD delay (edge-out sink source delay e m .0) 0 ≤ 255)
+    at e m =
+        let place = edge-out sink source delay e m in
+        let ends = fit-at source sink delay (place .0) fit (omega (arith, place .1)) in
+        (place .2, ends .0, ends .1, ends .2)
+
+module _ {n : ℕ} {source sink delay table last : List ℕ} (tabled : Tabled n source sink delay table last) where
+  ends : (j : ℕ) → j < length source → (getD source j 0 < n) × (getD sink j 0 < n) × (getD delay j 0 ≤ 255)
+  ends j l = fit-at source sink delay j (tabled .fit) l
+
+  -- what is read for an edge stands in the lists, at small places
+  pub places : (j : ℕ) → j < length source →
+      (getD source j 0 * n + getD sink j 0 < length table) × (getD source j 0 * n + n ≤ length table) × (getD sink j 0 * n + n ≤ length last)
+      × (length table ≤ 4096) × (getD sink j 0 * n < 4096)
+  places j l =
+      let at = ends j l in
+      let row : suc (getD source j 0) * n ≤ n * n = mul-le-mul-right n (omega (arith, at .0)) in
+      let after-row = suc-mul (getD source j 0) n in
+      let single : suc (getD sink j 0) * n ≤ n * n = mul-le-mul-right n (omega (arith, at .1)) in
+      let after-single = suc-mul (getD sink j 0) n in
+      let size : length table ≡ n * n = ap (λ (xs : List ℕ). length xs) (tabled .least) ∙ table-length n (edgesOf source sink delay) in
+      let few = product-small n n (tabled .few) (tabled .few) in
+      let room = tabled .room in
+      let to = at .1 in
+      (omega arith, omega arith, omega arith, omega arith, omega arith)
+
+  lowest : (a b : ℕ) → a < n → b < n → Lowest (edgesOf source sink delay) a b (min (getD table (a * n + b) 0) 16383)
+  lowest a b l k =
+      let es = edgesOf source sink delay in
+      cut-lowest (least-delay-is n es (tabled .fit .ends) a b) (ap (λ (xs : List ℕ). getD xs (a * n + b) 0) (tabled .least) ∙ table-at n es a b l k)
+
+  module _ (own : ℕ) (l : own < length source) where
+    abbrev s : ℕ
+    s = getD source own 0
+
+    abbrev t : ℕ
+    t = getD sink own 0
+
+    -- a smaller entry than the edge's delay is a path's
+    shorter : getD table (s * n + t) 0 < getD delay own 0 → Between (edgesOf source sink delay) (heldEdge source sink delay own)
+    unfolding heldEdge
+    shorter less =
+        let at = ends own l in
+        inl (min (getD table (s * n + t) 0) 16383, lowest s t (at .0) (at .1) .held .path (omega (arith, less, at .2)), omega (arith, less))
+
+    module _ (r : ℕ) (sum : LeastSum table (s * n) last (t * n) n r) where
+      -- so is a sum within it
+      within : r ≤ getD delay own 0 → Between (edgesOf source sink delay) (heldEdge source sink delay own)
+      unfolding heldEdge
+      within few =
+          let at = ends own l in
+          let found = sum .reached (omega (arith, few, at .2)) in
+          let u = found .0 in
+          let is = found .2 in
+          let step = tabled .steps .held t u (at .1) (found .1) (omega (arith, is, few, at .2)) in
+          let place = edge-out sink source delay (step .0) (step .1) in
+          let to : getD sink (place .0) 0 ≡ t = ap {B = ℕ} (λ (x : Edge). x .source) (sym (place .2)) ∙ step .2 in
+          let by : u ≡ getD source (place .0) 0 = sym (step .3) ∙ ap {B = ℕ} (λ (x : Edge). x .sink) (place .2) in
+          let late : getD delay (place .0) 0 ≡ getD last (t * n + u) 0 = ap {B = ℕ} (λ (x : Edge). x .delay) (sym (place .2)) ∙ step .4 in
+          inr (
+            heldEdge source sink delay (place .0),
+            edge-in source sink delay (place .0) (omega (arith, place .1, tabled .sinks)),
+            to,
+            min (getD table (s * n + u) 0) 16383,
+            path-ends refl by (lowest s u (at .0) (found .1) .held .path (omega (arith, is, few, at .2))),
+            omega (arith, is, few, late),
+          )
+
+      -- what comes in between shows in one of them
+      shown : Between (edgesOf source sink delay) (heldEdge source sink delay own) → (getD table (s * n + t) 0 < getD delay own 0) ⊎ (r ≤ getD delay own 0)
+      unfolding heldEdge
+      shown (inl (d, path, less)) = let at = ends own l in inl (omega (arith, lowest s t (at .0) (at .1) .least d path, less, at .2))
+      shown (inr (f, m, meets, a, path, few)) =
+          let edge = edge-out source sink delay f m in
+          let u : f .source ≡ getD source (edge .0) 0 = ap {B = ℕ} (λ (x : Edge). x .source) (edge .2) in
+          let to : t ≡ getD sink (edge .0) 0 = sym meets ∙ ap {B = ℕ} (λ (x : Edge). x .sink) (edge .2) in
+          let late : f .delay ≡ getD delay (edge .0) 0 = ap {B = ℕ} (λ (x : Edge). x .delay) (edge .2) in
+          let task : f .source < n = omega (arith, u, ends (edge .0) (edge .1) .0) in
+          let direct : getD last (t * n + f .source) 0 ≤ getD delay (edge .0) 0 =
+          subst (λ (p : ℕ). getD last p 0 ≤ getD delay (edge .0) 0) (λ i. sym to i * n + sym u i)
+          (tabled .steps .least (heldEdge sink source delay (edge .0)) (edge-in sink source delay (edge .0) (omega (arith, edge .1, tabled .sinks)))) in
+          inr (omega (arith, sum .low (f .source) task, lowest s (f .source) (ends own l .0) task .least a path, direct, late, few))
+
+    module _ (g : Graph) (held : HeldGraph g n (edgesOf source sink delay)) (i : ℕ) (is : own ≡ n + i) where
+      below : i < length (g .syncs)
+      below =
+          let all = ap (λ (es : List Edge). length es) (held .held) in
+          omega (arith, l, is, all, edges-length source sink delay, edges-count g, held .as-many)
+
+      own-is : heldEdge source sink delay own ≡ syncAt g i
+      unfolding syncAt
+      own-is =
+          let place : own ≡ count g + i = omega (arith, is, held .as-many) in
+          sym (edge-at source sink delay own l) ∙ ((λ j. getD (sym (held .held) j) (place j) noEdge) ∙ sync-place g i)
+
+      marked : Between (edgesOf source sink delay) (heldEdge source sink delay own) → isRedundant g i ≡ true
+      marked between =
+          decides-yes (redundant-is g (held .formed .syncs-formed .ends) i)
+          (redundant-between g (held .formed) (held .no-zero-cycle) i below .1
+          (subst (λ (e : Edge). Between (edges g) e) own-is (subst (λ (es : List Edge). Between es (heldEdge source sink delay own)) (sym (held .held)) between)))
+
+      pub marked-by-path : getD table (s * n + t) 0 < getD delay own 0 → isRedundant g i ≡ true
+      marked-by-path less = marked (shorter less)
+
+      module _ (r : ℕ) (sum : LeastSum table (s * n) last (t * n) n r) where
+        pub marked-by-sum : r ≤ getD delay own 0 → isRedundant g i ≡ true
+        marked-by-sum few = marked (within r sum few)
+
+        pub not-marked : getD delay own 0 ≤ getD table (s * n + t) 0 → getD delay own 0 < r → isRedundant g i ≡ false
+        not-marked longer more =
+            decides-no (redundant-is g (held .formed .syncs-formed .ends) i)
+            (λ redundant.
+            none
+            (shown r sum
+            (subst (λ (es : List Edge). Between es (heldEdge source sink delay own)) (held .held)
+            (subst (λ (e : Edge). Between (edges g) e) (sym own-is) (redundant-between g (held .formed) (held .no-zero-cycle) i below .0 redundant)))))
+          where
+            none : (getD table (s * n + t) 0 < getD delay own 0) ⊎ (r ≤ getD delay own 0) → ⊥
+            none (inl less) = omega arith
+            none (inr few) = omega arith
+
+-- a place past the list's end is no edge's
+pub past-end : (g : Graph) (n : ℕ) (source sink delay : List ℕ) → HeldGraph g n (edgesOf source sink delay) → (i : ℕ) → length source ≤ n + i →
+    isRedundant g i ≡ false
+past-end g n source sink delay held i l =
+    decides-no (redundant-is g (held .formed .syncs-formed .ends) i)
+    (λ redundant.
+    let all = ap (λ (es : List Edge). length es) (held .held) in
+    omega (arith, redundant .0, l, all, edges-length source sink delay, edges-count g, held .as-many))
