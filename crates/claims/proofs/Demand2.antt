@@ -53,7 +53,7 @@ use Rattle.claims.proofs.Answer.{number-is, only-judged, all-passed, ed
 
 -- a number that stands for the least delay, where no least delay is 65,535
 module _ (es : List Edge) (a b x : ℕ) (small : (d : ℕ) → Least es a b (some d) → d < 65535) where
-  delay-read : (o : Option ℕ) → Least es a b o → x ≡ entry o → (d : ℕ) → Least es a b (some d) ↔ ((x ≡ d) × (d < 65535))
+  pub delay-read : (o : Option ℕ) → Least es a b o → x ≡ entry o → (d : ℕ) → Least es a b (some d) ↔ ((x ≡ d) × (d < 65535))
   unfolding entry
   delay-read o least is d = (λ other. (is ∙ ap entry (least-unique es a b o (some d) least other), small d other), λ h. back o least is (h .0) (h .1))
     where
@@ -61,7 +61,7 @@ module _ (es : List Edge) (a b x : ℕ) (small : (d : ℕ) → Least es a b (som
       back (some y) least is same below = subst (λ (k : ℕ). Least es a b (some k)) (sym is ∙ same) least
       back none least is same below = absurd (omega (arith, is, same, below))
 
-  none-read : (o : Option ℕ) → Least es a b o → x ≡ entry o → Least es a b none ↔ (x ≡ 65535)
+  pub none-read : (o : Option ℕ) → Least es a b o → x ≡ entry o → Least es a b none ↔ (x ≡ 65535)
   unfolding entry
   none-read o least is = (λ other. is ∙ ap entry (least-unique es a b o none least other), back o least is)
     where

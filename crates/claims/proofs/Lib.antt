@@ -1,4 +1,4 @@
--- The proofs of the demands.
+-- The proofs of the demands and of the change requests.
 pub mod Sequences
 pub mod Conditions
 pub mod Followed
@@ -9,4 +9,5 @@ pub mod Passed
 pub mod Demand1
 pub mod Demand2
 pub mod Demand3
+pub mod Requests
 pub mod Cases

@@ -2,3 +2,8 @@
 pub mod Table
 pub mod Paths
 pub mod Signed
+pub mod Parts
+pub mod Rows
+pub mod Steps
+pub mod Kept
+pub mod Making

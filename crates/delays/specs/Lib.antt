@@ -1,1 +1,2 @@
 pub mod Delays
+pub mod Rows

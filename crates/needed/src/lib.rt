@@ -12,11 +12,11 @@ ghost use Rattle.delays.specs.Delays.{delayTable, Fit};
 ghost use Rattle.results.specs.Fronts.{HeldFront};
 ghost use Rattle.needed.specs.Needed.{needed, Listed};
 use delays::has_path;
+use delays::least_table;
 use marks::Marks;
 use marks::is_marked;
 use redundancy::redundant_marks;
 use results::store;
-use tables::least_table;
 
 // Stores the edges that are not marked and do not lie on a cycle, where a path leads from the sink back to the source, at the front of
 // three lists. Gives how many.
@@ -55,14 +55,12 @@ fn keep_needed<'a, 'b>(
 }
 
 // The feedforward edges of an accepted graph that are not redundant, in the file's sequence, at the front of three lists. Gives how many. The graph comes as
-// its edges, those of processors first, and a sequence of its tasks: any will do, `least_table` says which is quickest. The least delays between its tasks
-// are left at the front of the table, row by row.
+// its edges, those of processors first. The least delays between its tasks are left at the front of the table, row by row.
 pub fn first_stage<'a, 'b>(
     source: &'a [u8],
     sink: &'a [u8],
     delay: &'a [u8],
     tasks: usize,
-    sequence: &'a [u8],
     table: &'b mut [u16],
     to_source: &'b mut [u8],
     to_sink: &'b mut [u8],
@@ -70,13 +68,13 @@ pub fn first_stage<'a, 'b>(
 ) -> usize
     requires { ⌜ (length (now sink) ≡ length (now source)) × (length (now delay) ≡ length (now source)) ⌝ }
     requires { ⌜ ((g : Graph) × Listed g tasks (now source) (now sink) (now delay)) ⌝ }
-    requires { ⌜ (length (now sequence) ≤ 64) × (tasks * tasks ≤ length (now table)) ⌝ }
+    requires { ⌜ tasks * tasks ≤ length (now table) ⌝ }
     requires { ⌜ (length (now «to_source») ≡ 256) × (length (now «to_sink») ≡ 256) × (length (now «to_delay») ≡ 256) ⌝ }
     ensures stage { λ r. ⌜ ((g : Graph) → Listed g tasks (now (source .entry)) (now (sink .entry)) (now (delay .entry)) → HeldFront 256 r (now («to_source» .exit)) (now («to_sink» .exit)) (now («to_delay» .exit)) (firstStage g)) ⌝ }
     ensures table { λ _. ⌜ ((g : Graph) → Listed g tasks (now (source .entry)) (now (sink .entry)) (now (delay .entry)) → now (table .exit) ≡ delayTable (count g) (edges g) ++ drop (count g * count g) (now (table .entry))) ⌝ }
 {
     let end = source.len();
-    least_table(source, sink, delay, tasks, sequence, table);
+    least_table(source, sink, delay, tasks, table);
     let marks = redundant_marks(source, sink, delay, &table[0..tasks * tasks], tasks);
     keep_needed(
         &source[tasks..end],

@@ -1,6 +1,5 @@
 // The plan of a graph: its first stage, and steps from stage to stage until no candidate subsumes two edges.
 ghost use mathlib.Core.Path.{_≡_};
-ghost use Prim.Native.Nat.{_≤_};
 ghost use lib.ListN.{length};
 ghost use Rattle.model.specs.Graph.{Graph};
 ghost use Rattle.steps.specs.Steps.{Followed};
@@ -71,14 +70,12 @@ fn plan_from<'a, 'b>(
     )
 }
 
-// The plan of an accepted graph; three lists hold its edges then. The graph comes as its edges, its times, a sequence of its tasks, which only makes the table
-// of least delays quicker, its output and its bound.
+// The plan of an accepted graph; three lists hold its edges then. The graph comes as its edges, its times, its output and its bound.
 pub fn planned<'a, 'b>(
     graph_source: &'a [u8],
     graph_sink: &'a [u8],
     graph_delay: &'a [u8],
     time: &'a [u16],
-    sequence: &'a [u8],
     output: usize,
     bound: u32,
     source: &'b mut [u8],
@@ -87,7 +84,6 @@ pub fn planned<'a, 'b>(
 ) -> Walked
     requires { ⌜ (length (now «graph_sink») ≡ length (now «graph_source»)) × (length (now «graph_delay») ≡ length (now «graph_source»)) ⌝ }
     requires { ⌜ ((g : Graph) × Lent g (now «graph_source») (now «graph_sink») (now «graph_delay») (now time) output bound) ⌝ }
-    requires { ⌜ length (now sequence) ≤ 64 ⌝ }
     requires { ⌜ (length (now source) ≡ 256) × (length (now sink) ≡ 256) × (length (now delay) ≡ 256) ⌝ }
     ensures { λ r. ⌜ ((g : Graph) → Lent g (now («graph_source» .entry)) (now («graph_sink» .entry)) (now («graph_delay» .entry)) (now (time .entry)) output bound → Followed g r (now (source .exit)) (now (sink .exit)) (now (delay .exit))) ⌝ }
 {
@@ -97,7 +93,6 @@ pub fn planned<'a, 'b>(
         graph_sink,
         graph_delay,
         time.len(),
-        sequence,
         &mut table,
         source,
         sink,

@@ -8,12 +8,15 @@ use lib.Dec.{eqb, eqb·zero-suc, eqb·suc-zero, eqb·suc-suc}
 use lib.Arith.{digits-mod}
 use lib.Pow.{pow-pos, shr-shr}
 use lib.Bits.{bitAnd, bitOr, or-step, or-shr, and-mask}
-use Rattle.model.proofs.Tests.{eqb-decides, decides-yes, decides-no}
 use Rattle.reach.specs.Reach.{bit}
 
 pub or-false : (b : Bool) → b || false ≡ b
 or-false true = refl
 or-false false = refl
+
+pub or-true : (b : Bool) → b || true ≡ true
+or-true true = refl
+or-true false = refl
 
 -- ── Digits ──
 
@@ -81,12 +84,6 @@ pub bit-tested : (word k : ℕ) → not (eqb (bitAnd (word / 2 ^ k) 1) 0) ≡ bi
 unfolding bit
 bit-tested word k =
     ap (λ (n : ℕ). not (eqb n 0)) (and-mask (word / 2 ^ k) 1) ∙ digit-test (word / 2 ^ k % 2) (digit-below (word / 2 ^ k))
-
-pub bit-off : (word k : ℕ) → bitAnd (word / 2 ^ k) 1 ≡ 0 → bit word k ≡ false
-bit-off word k q = sym (bit-tested word k) ∙ ap not (decides-yes (eqb-decides (bitAnd (word / 2 ^ k) 1) 0) q)
-
-pub bit-on : (word k : ℕ) → (bitAnd (word / 2 ^ k) 1 ≡ 0 → ⊥) → bit word k ≡ true
-bit-on word k n = sym (bit-tested word k) ∙ ap not (decides-no (eqb-decides (bitAnd (word / 2 ^ k) 1) 0) n)
 
 -- a word whose bit k is not set, beside one that it does not take, and one that takes it
 pub bits-left : (word row k b : ℕ) → bit word k ≡ false → bit word b ≡ bit word b || (bit word k && bit row b)

@@ -39,7 +39,7 @@ module _ (a e : ℕ) (f : ℕ → ℕ) (xs : List ℕ) (below : a ≤ e) (within
       = length-append (take a xs) (tabulate (e - a) f ++ drop e xs) in
       omega (arith, front-length)
 
-  part-before : (i : ℕ) → i < a → getD (withPart a e f xs) i 0 ≡ getD xs i 0
+  pub part-before : (i : ℕ) → i < a → getD (withPart a e f xs) i 0 ≡ getD xs i 0
   unfolding withPart
   part-before i l =
       List·getD-append (take a xs) (tabulate (e - a) f ++ drop e xs) 0 i (subst (λ (n : ℕ). i < n) (sym front-length) l) ∙ getD-take a xs i 0 l
@@ -50,7 +50,7 @@ module _ (a e : ℕ) (f : ℕ → ℕ) (xs : List ℕ) (below : a ≤ e) (within
       ap (λ (n : ℕ). getD (take a xs ++ (tabulate (e - a) f ++ drop e xs)) (n + j) 0) (sym front-length) ∙
       getD-append-add (take a xs) (tabulate (e - a) f ++ drop e xs) j 0
 
-  part-inside : (j : ℕ) → j < e - a → getD (withPart a e f xs) (a + j) 0 ≡ f j
+  pub part-inside : (j : ℕ) → j < e - a → getD (withPart a e f xs) (a + j) 0 ≡ f j
   part-inside j l =
       behind j ∙
       (List·getD-append (tabulate (e - a) f) (drop e xs) 0 j (subst (λ (n : ℕ). j < n) (sym (length-tabulate (e - a) f)) l) ∙ getD-tabulate (e - a) f 0 j l)

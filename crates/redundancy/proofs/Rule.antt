@@ -4,40 +4,28 @@ use mathlib.Core.Path.{_≡_, refl, sym, ap, _∙_, subst}
 use mathlib.Core.Logic.{_⊎_, inl, inr}
 use mathlib.Core.Bool.{true, false}
 use mathlib.Core.List.{List}
-use mathlib.Core.Option.{Option}
 use Prim.Native.Nat.{ℕ, suc, _+_, _*_, _≤_, _<_, min}
 use native.Mathlib.Nat.{mul-le-mul-right, suc-mul}
 use native.Mathlib.Omega.{arith}
 use lib.ListN.{length, getD}
 use Rattle.model.specs.Tasks.{Edge, _∈_, noEdge}
 use Rattle.model.specs.Graph.{Graph, count, edges}
-use Rattle.model.specs.Paths.{Least, smallest, no-path, syncAt}
+use Rattle.model.specs.Paths.{syncAt}
 use Rattle.model.specs.Compute.{isRedundant}
-use Rattle.model.proofs.Walks.{path-ends, path-delay}
+use Rattle.model.proofs.Walks.{path-ends}
 use Rattle.model.proofs.Tests.{decides-yes, decides-no}
 use Rattle.model.proofs.Theorems.{redundant-is, least-delay-is}
 use Rattle.records.specs.Columns.{heldEdge, edgesOf}
 use Rattle.records.proofs.Ordered.{edges-count, sync-place}
 use Rattle.records.proofs.Edges.{edges-length, edge-in, edge-out, edge-at}
 use Rattle.records.proofs.Rows.{product-small}
-use Rattle.delays.specs.Delays.{entry, Fit}
+use Rattle.delays.specs.Delays.{Fit}
+use Rattle.delays.specs.Rows.{LeastEntry}
 use Rattle.delays.proofs.Table.{table-length, table-at}
-use Rattle.sweeps.specs.Sweeps.{Lowest}
-use Rattle.sweeps.proofs.Over.{fit-at}
+use Rattle.delays.proofs.Steps.{fit-at}
+use Rattle.delays.proofs.Kept.{cut-least}
 use Rattle.redundancy.specs.Redundancy.{HeldGraph, Tabled, LeastSum}
 use Rattle.redundancy.proofs.Between.{Between, redundant-between}
-
--- a table's entry cut at 16,383 is the least delay, or 16,383 where no path is shorter
-cut-lowest : {es : List Edge} {a b x : ℕ} {o : Option ℕ} → Least es a b o → x ≡ entry o → Lowest es a b (min x 16383)
-unfolding entry
-cut-lowest (smallest {d = d} path least) is = record {
-  held = record { small = omega arith; path = λ l. path-delay (omega arith) path };
-  least = λ k other. let low = least k other in omega arith;
-}
-cut-lowest (no-path none) is = record {
-  held = record { small = omega arith; path = λ l. absurd (omega arith) };
-  least = λ k other. absurd (none k other);
-}
 
 -- edges between n tasks turned round are edges between them
 pub fit-turned : (source sink delay : List ℕ) {n : ℕ} → length sink ≡ length source → Fit n (edgesOf source sink delay) → Fit n (edgesOf sink source delay)
@@ -61,24 +49,24 @@ module _ {n : ℕ} {source sink delay table last : List ℕ} (tabled : Tabled n 
 
   -- what is read for an edge stands in the lists, at small places
   pub places : (j : ℕ) → j < length source →
-      (getD source j 0 * n + getD sink j 0 < length table) × (getD source j 0 * n + n ≤ length table) × (getD sink j 0 * n + n ≤ length last)
-      × (length table ≤ 4096) × (getD sink j 0 * n < 4096)
+      (getD source j 0 * n + getD sink j 0 < length table) × (getD source j 0 * n + n ≤ length table) × (getD sink j 0 * 64 + n ≤ length last)
+      × (length table ≤ 4096) × (getD sink j 0 < 64)
   places j l =
       let at = ends j l in
       let row : suc (getD source j 0) * n ≤ n * n = mul-le-mul-right n (omega (arith, at .0)) in
       let after-row = suc-mul (getD source j 0) n in
-      let single : suc (getD sink j 0) * n ≤ n * n = mul-le-mul-right n (omega (arith, at .1)) in
-      let after-single = suc-mul (getD sink j 0) n in
       let size : length table ≡ n * n = ap (λ (xs : List ℕ). length xs) (tabled .least) ∙ table-length n (edgesOf source sink delay) in
       let few = product-small n n (tabled .few) (tabled .few) in
-      let room = tabled .room in
-      let to = at .1 in
-      (omega arith, omega arith, omega arith, omega arith, omega arith)
+      (omega (arith, at .1), omega arith, omega (arith, at .1, tabled .few, tabled .steps .size), omega arith, omega (arith, at .1, tabled .few))
 
-  lowest : (a b : ℕ) → a < n → b < n → Lowest (edgesOf source sink delay) a b (min (getD table (a * n + b) 0) 16383)
+  -- last steps are small
+  pub small : (j : ℕ) → j < length source → (u : ℕ) → u < n → getD last (getD sink j 0 * 64 + u) 0 ≤ 16383
+  small j l u below = tabled .steps .small (getD sink j 0) u (omega (arith, ends j l .1, tabled .few)) (omega (arith, below, tabled .few))
+
+  lowest : (a b : ℕ) → a < n → b < n → LeastEntry (edgesOf source sink delay) a b (min (getD table (a * n + b) 0) 16383)
   lowest a b l k =
       let es = edgesOf source sink delay in
-      cut-lowest (least-delay-is n es (tabled .fit .ends) a b) (ap (λ (xs : List ℕ). getD xs (a * n + b) 0) (tabled .least) ∙ table-at n es a b l k)
+      cut-least (least-delay-is n es (tabled .fit .ends) a b) (ap (λ (xs : List ℕ). getD xs (a * n + b) 0) (tabled .least) ∙ table-at n es a b l k)
 
   module _ (own : ℕ) (l : own < length source) where
     abbrev s : ℕ
@@ -94,7 +82,7 @@ module _ {n : ℕ} {source sink delay table last : List ℕ} (tabled : Tabled n 
         let at = ends own l in
         inl (min (getD table (s * n + t) 0) 16383, lowest s t (at .0) (at .1) .held .path (omega (arith, less, at .2)), omega (arith, less))
 
-    module _ (r : ℕ) (sum : LeastSum table (s * n) last (t * n) n r) where
+    module _ (r : ℕ) (sum : LeastSum table (s * n) last (t * 64) n r) where
       -- so is a sum within it
       within : r ≤ getD delay own 0 → Between (edgesOf source sink delay) (heldEdge source sink delay own)
       unfolding heldEdge
@@ -103,11 +91,11 @@ module _ {n : ℕ} {source sink delay table last : List ℕ} (tabled : Tabled n 
           let found = sum .reached (omega (arith, few, at .2)) in
           let u = found .0 in
           let is = found .2 in
-          let step = tabled .steps .held t u (at .1) (found .1) (omega (arith, is, few, at .2)) in
+          let step = tabled .steps .held t u (omega (arith, at .1, tabled .few)) (omega (arith, found .1, tabled .few)) (omega (arith, is, few, at .2)) in
           let place = edge-out sink source delay (step .0) (step .1) in
           let to : getD sink (place .0) 0 ≡ t = ap {B = ℕ} (λ (x : Edge). x .source) (sym (place .2)) ∙ step .2 in
           let by : u ≡ getD source (place .0) 0 = sym (step .3) ∙ ap {B = ℕ} (λ (x : Edge). x .sink) (place .2) in
-          let late : getD delay (place .0) 0 ≡ getD last (t * n + u) 0 = ap {B = ℕ} (λ (x : Edge). x .delay) (sym (place .2)) ∙ step .4 in
+          let late : getD delay (place .0) 0 ≡ getD last (t * 64 + u) 0 = ap {B = ℕ} (λ (x : Edge). x .delay) (sym (place .2)) ∙ step .4 in
           inr (
             heldEdge source sink delay (place .0),
             edge-in source sink delay (place .0) (omega (arith, place .1, tabled .sinks)),
@@ -127,8 +115,8 @@ module _ {n : ℕ} {source sink delay table last : List ℕ} (tabled : Tabled n 
           let to : t ≡ getD sink (edge .0) 0 = sym meets ∙ ap {B = ℕ} (λ (x : Edge). x .sink) (edge .2) in
           let late : f .delay ≡ getD delay (edge .0) 0 = ap {B = ℕ} (λ (x : Edge). x .delay) (edge .2) in
           let task : f .source < n = omega (arith, u, ends (edge .0) (edge .1) .0) in
-          let direct : getD last (t * n + f .source) 0 ≤ getD delay (edge .0) 0 =
-          subst (λ (p : ℕ). getD last p 0 ≤ getD delay (edge .0) 0) (λ i. sym to i * n + sym u i)
+          let direct : getD last (t * 64 + f .source) 0 ≤ getD delay (edge .0) 0 =
+          subst (λ (p : ℕ). getD last p 0 ≤ getD delay (edge .0) 0) (λ i. sym to i * 64 + sym u i)
           (tabled .steps .least (heldEdge sink source delay (edge .0)) (edge-in sink source delay (edge .0) (omega (arith, edge .1, tabled .sinks)))) in
           inr (omega (arith, sum .low (f .source) task, lowest s (f .source) (ends own l .0) task .least a path, direct, late, few))
 
@@ -153,7 +141,7 @@ module _ {n : ℕ} {source sink delay table last : List ℕ} (tabled : Tabled n 
       pub marked-by-path : getD table (s * n + t) 0 < getD delay own 0 → isRedundant g i ≡ true
       marked-by-path less = marked (shorter less)
 
-      module _ (r : ℕ) (sum : LeastSum table (s * n) last (t * n) n r) where
+      module _ (r : ℕ) (sum : LeastSum table (s * n) last (t * 64) n r) where
         pub marked-by-sum : r ≤ getD delay own 0 → isRedundant g i ≡ true
         marked-by-sum few = marked (within r sum few)
 

@@ -9,7 +9,7 @@ use Rattle.model.specs.Graph.{Graph, WellFormed, count, edges}
 use Rattle.model.specs.Paths.{NoZeroCycle}
 use Rattle.records.specs.Columns.{edgesOf}
 use Rattle.delays.specs.Delays.{delayTable, Fit}
-use Rattle.ways.specs.Ways.{StepsOf}
+use Rattle.delays.specs.Rows.{StepsOf}
 
 pub record HeldGraph (g : Graph) (n : ℕ) (es : List Edge) : Type 0 where
   pub as-many : count g ≡ n
@@ -24,12 +24,11 @@ pub record Tabled (n : ℕ) (source sink delay table last : List ℕ) : Type 0 w
   pub few : n ≤ 64
   pub fit : Fit n (edgesOf source sink delay)
   pub least : table ≡ delayTable n (edgesOf source sink delay)
-  pub room : length last ≡ 4096
-  pub steps : StepsOf n (edgesOf sink source delay) last
+  pub steps : StepsOf (edgesOf sink source delay) last
 
--- a least delay and a last step, each cut at 16,383
+-- a least delay, cut at 16,383, and a last step
 abbrev pub sumAt : List ℕ → ℕ → List ℕ → ℕ → ℕ → ℕ
-sumAt table from last to u = min (getD table (from + u) 0) 16383 + min (getD last (to + u) 0) 16383
+sumAt table from last to u = min (getD table (from + u) 0) 16383 + getD last (to + u) 0
 
 -- r is the least of the sums of two rows' entries, so many, or 16,383 if none is less.
 pub record LeastSum (table : List ℕ) (from : ℕ) (last : List ℕ) (to count r : ℕ) : Type 0 where

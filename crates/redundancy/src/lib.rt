@@ -2,8 +2,8 @@
 // edge to t has, with that edge, at most d. The edge itself does not count as that last edge: a cycle from s to s has delay 1 at least.
 // So a row of least delays out of s and a row of last steps to t are added, entry by entry, and the least sum is held to d.
 ghost use mathlib.Core.Path.{_≡_};
-ghost use Prim.Native.Nat.{ℕ, _+_, _*_, _≤_, _<_};
-ghost use lib.ListN.{length};
+ghost use Prim.Native.Nat.{ℕ, _+_, _≤_, _<_};
+ghost use lib.ListN.{length, getD};
 ghost use Rattle.model.specs.Lists.{counted};
 ghost use Rattle.model.specs.Graph.{Graph};
 ghost use Rattle.model.specs.Compute.{isRedundant};
@@ -12,20 +12,21 @@ ghost use Rattle.delays.specs.Delays.{delayTable, Fit};
 ghost use Rattle.marks.specs.Marks.{number, marksOf};
 ghost use Rattle.redundancy.specs.Redundancy.{HeldGraph, Tabled, LeastSum};
 use delays::FAR;
+use delays::WIDTH;
+use delays::lesser;
+use delays::nearer;
+use delays::take_steps;
 use marks::Marks;
-use sweeps::lesser;
-use sweeps::nearer;
-use ways::take_steps;
 
 // The least of the sums of a row of least delays and a row of last steps, FAR where none is less.
 fn least_sum<'a>(table: &'a [u16], from: usize, last: &'a [u16], to: usize, tasks: usize) -> u16
-    requires { ⌜ (from + tasks ≤ length (now table)) × (to + tasks ≤ length (now last)) ⌝ }
+    requires { ⌜ (from + tasks ≤ length (now table)) × (to + tasks ≤ length (now last)) × ((u : ℕ) → u < tasks → getD (now last) (to + u) 0 ≤ 16383) ⌝ }
     ensures { λ r. ⌜ LeastSum (now (table .entry)) from (now (last .entry)) to tasks r ⌝ }
 {
     let mut least = FAR;
     let mut u = 0;
     while u < tasks {
-        let sum = lesser(table[from + u], FAR) + lesser(last[to + u], FAR);
+        let sum = lesser(table[from + u], FAR) + last[to + u];
         least = nearer(least, sum);
         u += 1;
     }
@@ -53,7 +54,7 @@ fn mark<'a>(
     if table[from + to] < most {
         return 1;
     }
-    if least_sum(table, from, last, to * tasks, tasks) <= most {
+    if least_sum(table, from, last, to * WIDTH, tasks) <= most {
         return 1;
     }
     0
@@ -104,8 +105,8 @@ pub fn redundant_marks<'a>(
     requires { ⌜ now table ≡ delayTable tasks (edgesOf (now source) (now sink) (now delay)) ⌝ }
     ensures { λ r. ⌜ ((g : Graph) → HeldGraph g tasks (edgesOf (now (source .entry)) (now (sink .entry)) (now (delay .entry))) → r ≡ marksOf (isRedundant g)) ⌝ }
 {
-    let mut last: [u16; 4096] = [65535; 4096];
-    take_steps(sink, source, delay, tasks, &mut last);
+    let mut last: [u16; 4096] = [FAR; 4096];
+    take_steps(sink, source, delay, &mut last);
     let first = mark_word(source, sink, delay, table, tasks, &last, 0);
     let second = mark_word(source, sink, delay, table, tasks, &last, 64);
     let third = mark_word(source, sink, delay, table, tasks, &last, 128);

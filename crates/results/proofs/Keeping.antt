@@ -2,7 +2,7 @@
 use mathlib.Core.Path.{_≡_, refl, sym, ap, _∙_}
 use mathlib.Core.Bool.{Bool, true, false}
 use mathlib.Core.List.{List, [], _∷_, _++_, append-nil, List·Memᴰ, List·Memᴰ·head as here, List·Memᴰ·tail as there}
-use Prim.Native.Nat.{ℕ, suc, _+_, _≤_, _<_}
+use Prim.Native.Nat.{ℕ, suc, _+_, _<_}
 use native.Mathlib.Nat.{add-zero, zero-add}
 use native.Mathlib.Omega.{arith}
 use lib.Dec.{T}
@@ -37,25 +37,6 @@ module _ {A : Type 0} (t : A → Bool) where
   keep-all (x ∷ xs) each =
       ap (λ (b : Bool). put b x (keep t xs)) (is-true (t x) (each x (here refl))) ∙
       ap (λ (zs : List A). x ∷ zs) (keep-all xs (λ y m. each y (there m)))
-
-  keep-shorter : (xs : List A) → length (keep t xs) ≤ length xs
-  unfolding keep put
-  keep-shorter [] = omega arith
-  keep-shorter (x ∷ xs) = go (t x) (keep-shorter xs)
-    where
-      go : (b : Bool) → length (keep t xs) ≤ length xs → length (put b x (keep t xs)) ≤ suc (length xs)
-      go true rest = omega arith
-      go false rest = omega arith
-
-  -- where as many are kept, all are
-  pub keep-whole : (xs : List A) → length (keep t xs) ≡ length xs → keep t xs ≡ xs
-  unfolding keep put
-  keep-whole [] whole = refl
-  keep-whole (x ∷ xs) whole = go (t x) whole (λ h. keep-whole xs h)
-    where
-      go : (b : Bool) → length (put b x (keep t xs)) ≡ suc (length xs) → (length (keep t xs) ≡ length xs → keep t xs ≡ xs) → put b x (keep t xs) ≡ x ∷ xs
-      go true same rest = ap (λ (zs : List A). x ∷ zs) (rest (omega arith))
-      go false same rest = absurd (omega (arith, same, keep-shorter xs))
 
 -- ── By places ──
 

@@ -14,6 +14,7 @@ ghost use Rattle.resync.specs.Calls.{outcome, roomRefusal, turnsRefusal,
 use crate::GraphFigures;
 use crate::Outcome;
 use crate::RedundantSet;
+use delays::least_table;
 use files::PASSED;
 use files::Refusal;
 use marks::Marks;
@@ -21,7 +22,6 @@ use marks::Places;
 use redundancy::redundant_marks;
 use schedule::accept_into;
 use starts::turns_into;
-use tables::least_table;
 
 const SHORT_LIST: Refusal = Refusal {
     number: 16,
@@ -87,7 +87,6 @@ pub fn figures(graph: &[u8]) -> GraphFigures
     let mut source: [u8; 320] = [0; 320];
     let mut sink: [u8; 320] = [0; 320];
     let mut delay: [u8; 320] = [0; 320];
-    let mut sequence: [u8; 64] = [0; 64];
     let accepted = accept_into(
         graph,
         &mut processor,
@@ -95,7 +94,6 @@ pub fn figures(graph: &[u8]) -> GraphFigures
         &mut source,
         &mut sink,
         &mut delay,
-        &mut sequence,
     );
     let refusal = accepted.refusal;
     let outcome = told(refusal);
@@ -126,7 +124,6 @@ pub fn least_delays(graph: &[u8], table: &mut [u16]) -> Outcome
     let mut source: [u8; 320] = [0; 320];
     let mut sink: [u8; 320] = [0; 320];
     let mut delay: [u8; 320] = [0; 320];
-    let mut sequence: [u8; 64] = [0; 64];
     let accepted = accept_into(
         graph,
         &mut processor,
@@ -134,7 +131,6 @@ pub fn least_delays(graph: &[u8], table: &mut [u16]) -> Outcome
         &mut source,
         &mut sink,
         &mut delay,
-        &mut sequence,
     );
     let numbers = accepted.numbers;
     let tasks = numbers.tasks as usize;
@@ -143,32 +139,19 @@ pub fn least_delays(graph: &[u8], table: &mut [u16]) -> Outcome
         return told(refusal);
     }
     let end = tasks + numbers.edges as usize;
-    least_table(
-        &source[0..end],
-        &sink[0..end],
-        &delay[0..end],
-        tasks,
-        &sequence[0..tasks],
-        table,
-    );
+    least_table(&source[0..end], &sink[0..end], &delay[0..end], tasks, table);
     told(refusal)
 }
 
 // The marks of the redundant edges, by the table of least delays.
-fn redundant_edges<'a>(
-    source: &'a [u8],
-    sink: &'a [u8],
-    delay: &'a [u8],
-    tasks: usize,
-    sequence: &'a [u8],
-) -> Marks
+fn redundant_edges<'a>(source: &'a [u8], sink: &'a [u8], delay: &'a [u8], tasks: usize) -> Marks
     requires { ⌜ (length (now sink) ≡ length (now source)) × (length (now delay) ≡ length (now source)) ⌝ }
-    requires { ⌜ (tasks ≤ 64) × (length (now source) ≤ 320) × (length (now sequence) ≤ 64) ⌝ }
+    requires { ⌜ (tasks ≤ 64) × (length (now source) ≤ 320) ⌝ }
     requires { ⌜ Fit tasks (edgesOf (now source) (now sink) (now delay)) ⌝ }
     ensures { λ r. ⌜ ((g : Graph) → HeldGraph g tasks (edgesOf (now (source .entry)) (now (sink .entry)) (now (delay .entry))) → r ≡ marksOf (isRedundant g)) ⌝ }
 {
     let mut table: [u16; 4096] = [0; 4096];
-    least_table(source, sink, delay, tasks, sequence, &mut table);
+    least_table(source, sink, delay, tasks, &mut table);
     redundant_marks(source, sink, delay, &table[0..tasks * tasks], tasks)
 }
 
@@ -181,7 +164,6 @@ pub fn redundant(graph: &[u8]) -> RedundantSet
     let mut source: [u8; 320] = [0; 320];
     let mut sink: [u8; 320] = [0; 320];
     let mut delay: [u8; 320] = [0; 320];
-    let mut sequence: [u8; 64] = [0; 64];
     let accepted = accept_into(
         graph,
         &mut processor,
@@ -189,7 +171,6 @@ pub fn redundant(graph: &[u8]) -> RedundantSet
         &mut source,
         &mut sink,
         &mut delay,
-        &mut sequence,
     );
     let refusal = accepted.refusal;
     let outcome = told(refusal);
@@ -204,13 +185,7 @@ pub fn redundant(graph: &[u8]) -> RedundantSet
     let numbers = accepted.numbers;
     let tasks = numbers.tasks as usize;
     let end = tasks + numbers.edges as usize;
-    let marks = redundant_edges(
-        &source[0..end],
-        &sink[0..end],
-        &delay[0..end],
-        tasks,
-        &sequence[0..tasks],
-    );
+    let marks = redundant_edges(&source[0..end], &sink[0..end], &delay[0..end], tasks);
     let count = marks::count(marks);
     RedundantSet {
         outcome,
@@ -240,7 +215,6 @@ pub fn timetable(graph: &[u8], turns: usize, starts: &mut [u32]) -> Outcome
     let mut source: [u8; 320] = [0; 320];
     let mut sink: [u8; 320] = [0; 320];
     let mut delay: [u8; 320] = [0; 320];
-    let mut sequence: [u8; 64] = [0; 64];
     let accepted = accept_into(
         graph,
         &mut processor,
@@ -248,7 +222,6 @@ pub fn timetable(graph: &[u8], turns: usize, starts: &mut [u32]) -> Outcome
         &mut source,
         &mut sink,
         &mut delay,
-        &mut sequence,
     );
     let numbers = accepted.numbers;
     let tasks = numbers.tasks as usize;

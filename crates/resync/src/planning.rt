@@ -29,7 +29,6 @@ fn decide(graph: &[u8], room: usize) -> Decided
     let mut source: [u8; 320] = [0; 320];
     let mut sink: [u8; 320] = [0; 320];
     let mut delay: [u8; 320] = [0; 320];
-    let mut sequence: [u8; 64] = [0; 64];
     let accepted = accept_into(
         graph,
         &mut processor,
@@ -37,7 +36,6 @@ fn decide(graph: &[u8], room: usize) -> Decided
         &mut source,
         &mut sink,
         &mut delay,
-        &mut sequence,
     );
     let numbers = accepted.numbers;
     let refusal = with_room(accepted.refusal, numbers.edges as usize, room);
@@ -65,7 +63,6 @@ fn decide(graph: &[u8], room: usize) -> Decided
         &sink[0..end],
         &delay[0..end],
         &time[0..tasks],
-        &sequence[0..tasks],
         output,
         numbers.bound,
         &mut to_source,

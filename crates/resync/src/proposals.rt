@@ -78,7 +78,6 @@ pub fn verdict(graph: &[u8], proposal: &[u8]) -> ProposalVerdict
     let mut source: [u8; 320] = [0; 320];
     let mut sink: [u8; 320] = [0; 320];
     let mut delay: [u8; 320] = [0; 320];
-    let mut sequence: [u8; 64] = [0; 64];
     let accepted = accept_into(
         graph,
         &mut processor,
@@ -86,7 +85,6 @@ pub fn verdict(graph: &[u8], proposal: &[u8]) -> ProposalVerdict
         &mut source,
         &mut sink,
         &mut delay,
-        &mut sequence,
     );
     let unaccepted = accepted.refusal;
     if unaccepted.number != 0 {

@@ -11,8 +11,9 @@ use lib.Seq.{getD-set-same, getD-set-other}
 use Rattle.model.proofs.Basics.{order}
 use Rattle.records.specs.Columns.{at}
 use Rattle.records.proofs.Rows.{place-within}
-use Rattle.sweeps.proofs.Parts.{PartDone, part-more}
-use Rattle.updates.specs.Updates.{Small, RowFell, RowCopied, lowerAt, RowLowered, RowsJoined}
+use Rattle.delays.specs.Rows.{RowCopied}
+use Rattle.delays.proofs.Parts.{PartDone, part-more}
+use Rattle.updates.specs.Updates.{Small, RowFell, lowerAt, RowLowered, RowsJoined}
 use Rattle.updates.proofs.Rows.{rowOf, row-at}
 
 -- ── One row ──
@@ -79,8 +80,9 @@ module _ (way : ℕ) (onward : List ℕ) (start : ℕ) where
 -- ── A row of its own ──
 
 pub row-lowered :
-    {near far x least : ℕ} {rows row after : List ℕ} → far * 64 + 64 ≤ length rows → RowCopied rows (x * 64) 64 row
+    {near far x least : ℕ} {rows row after : List ℕ} → far * 64 + 64 ≤ length rows → RowCopied rows (x * 64) row
     → RowFell (at rows (x * 64 + near)) (rowOf far rows) 0 64 row after least → RowLowered near far rows x after least
+unfolding at
 row-lowered {near} {far} {x} {least} {rows} {row} {after} room copied next = record {
   size = next .size ∙ copied .size;
   each = λ y l.
@@ -109,8 +111,9 @@ joined-none near far small = record {
 }
 
 pub joined-more :
-    {near far x way least : ℕ} {onward before rows after : List ℕ} → JoinedSoFar near far x before rows → RowCopied before (far * 64) 64 onward
+    {near far x way least : ℕ} {onward before rows after : List ℕ} → JoinedSoFar near far x before rows → RowCopied before (far * 64) onward
     → way ≡ at rows (x * 64 + near) → RowFell way onward (x * 64) 64 rows after least → JoinedSoFar near far (x + 1) before after
+unfolding at
 joined-more {near} {far} {x} {way} {least} {onward} {before} {rows} {after} done copied way-is next = record {
   joined = record {
     size = next .size ∙ done .joined .size;

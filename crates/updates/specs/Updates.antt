@@ -29,11 +29,6 @@ pub record RowFell (way : ℕ) (onward : List ℕ) (start many : ℕ) (before af
   pub outside : (i : ℕ) → (i < start) ⊎ (start + many ≤ i) → at after i ≡ at before i
   pub fell : (y : ℕ) → y < many → (at after (start + y) ≡ at before (start + y)) ⊎ (least ≤ at after (start + y))
 
--- The first `many` numbers of a row of its own are those of a list from a start on.
-pub record RowCopied (rows : List ℕ) (start many : ℕ) (row : List ℕ) : Type 0 where
-  pub size : length row ≡ 64
-  pub each : (i : ℕ) → i < many → at row i ≡ at rows (start + i)
-
 -- number y of row x, lowered to the row's number for the task `near` and number y of row `far` after it
 abbrev pub lowerAt : ℕ → ℕ → List ℕ → ℕ → ℕ → ℕ
 lowerAt near far rows x y = min (at rows (x * 64 + y)) (at rows (x * 64 + near) + at rows (far * 64 + y))

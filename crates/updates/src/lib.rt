@@ -3,11 +3,12 @@ ghost use mathlib.Core.Path.{_≡_};
 ghost use Prim.Native.Nat.{ℕ, _+_, _*_, _≤_, _<_};
 ghost use lib.ListN.{length};
 ghost use Rattle.records.specs.Columns.{at};
-ghost use Rattle.updates.specs.Updates.{Small, LineSpread, Spread, RowFell, RowCopied, RowLowered, RowsJoined};
+ghost use Rattle.updates.specs.Updates.{Small, LineSpread, Spread, RowFell, RowLowered, RowsJoined};
 use delays::FAR;
 use delays::WIDTH;
-use sweeps::lesser;
-use sweeps::nearer;
+use delays::copy_row;
+use delays::lesser;
+use delays::nearer;
 
 // No entry fell: above every entry, and the largest number that fits a signed test.
 const NONE: u16 = 32767;
@@ -78,18 +79,6 @@ fn lower_row(way: u16, onward: &[u16], start: usize, rows: &mut [u16]) -> u16
         y += 1;
     }
     least
-}
-
-// Copies a row of 64 numbers into a list of its own.
-fn copy_row(rows: &[u16], start: usize, row: &mut [u16])
-    requires { ⌜ (start + 64 ≤ length (now rows)) × (start ≤ 4096) × (length (now row) ≡ 64) ⌝ }
-    ensures { λ _. ⌜ RowCopied (now (rows .entry)) start 64 (now (row .exit)) ⌝ }
-{
-    let mut i = 0;
-    while i < WIDTH {
-        row[i] = rows[start + i];
-        i += 1;
-    }
 }
 
 // Row x as it is with an edge of delay 0 more, into a list of its own: its numbers fall to its own for the task `near` and those of row `far` after it. Rows

@@ -3,13 +3,13 @@
 use mathlib.Core.Path.{_≡_, refl, sym, ap, _∙_, subst}
 use mathlib.Core.Logic.{_⊎_, inl, inr, _≢_}
 use mathlib.Core.Bool.{true, false, not}
-use mathlib.Core.List.{List, [], _∷_, _++_, Memᴰ·append-left}
+use mathlib.Core.List.{List, [], _∷_, _++_}
 use Prim.Native.Nat.{ℕ, zero, suc, _+_, _-_, _*_, _≤_, _<_}
 use native.Mathlib.Nat.{sub-zero}
 use native.Mathlib.Omega.{arith}
-use lib.ListN.{length, getD, take, length-append}
+use lib.ListN.{length, getD, take}
 use lib.Seq.{length-take-le, getD-take}
-use Rattle.model.specs.Lists.{counted, tabulate, keep}
+use Rattle.model.specs.Lists.{counted, tabulate}
 use Rattle.model.specs.Tasks.{Edge, _∈_, Ends, noEdge, processorOf}
 use Rattle.model.specs.Processors.{processorEdges}
 use Rattle.model.specs.Graph.{Graph, WellFormed, count, edges, timeOf}
@@ -27,24 +27,22 @@ use Rattle.files.specs.Files.{edgeIn, firstOf}
 use Rattle.files.proofs.First.{number-same}
 use Rattle.records.specs.Columns.{SourcesOf, SinksOf, DelaysOf, edgesOf, heldEdge, at}
 use Rattle.records.proofs.Fill.{length-tabulate, getD-tabulate}
-use Rattle.records.proofs.Edges.{edge-at, edge-in, edges-length, edges-of-columns}
+use Rattle.records.proofs.Edges.{edge-at, edge-in, edges-of-columns}
 use Rattle.records.proofs.Ordered.{sync-place}
 use Rattle.readings.specs.declared.GraphReading.{GraphReading}
 use Rattle.readings.specs.declared.ProposalReading.{ProposalReading}
 use Rattle.readings.specs.Working.{workingGraph, workingProposal}
 use Rattle.readings.specs.Theorems.{HeldEdges}
 use Rattle.readings.proofs.Held.{working-edges-hold}
-use Rattle.delays.specs.Delays.{delayTable, Fit}
+use Rattle.delays.specs.Delays.{Fit}
 use Rattle.starts.specs.Starts.{FileTimes}
-use Rattle.delays.proofs.Table.{table-length, table-front, table-room}
 use Rattle.schedule.proofs.Fronts.{front, frontEdges, Fronts, Within, file-times, working-is, working-within, working-few, working-square, working-fit}
 use Rattle.reach.specs.Reach.{Circled, ReachesOn}
 use Rattle.results.specs.declared.ResultEdges.{ResultEdges}
 use Rattle.results.specs.Results.{cyclic, resultOf, HeldResult}
-use Rattle.results.proofs.Keeping.{keep-whole}
 use Rattle.results.proofs.Results.{result-edges-are}
 use Rattle.verdicts.specs.Verdicts.{someOnCycle, lostRefusal, judgedRefusal, timed, judgement, OpenPlace, HeldProposal, Judgeable}
-use Rattle.verdicts.specs.Tables.{FoundCyclic, nowhere, somewhere, Among, lostFrom}
+use Rattle.verdicts.specs.Searches.{FoundCyclic, nowhere, somewhere, lostFrom}
 use Rattle.verdicts.specs.Theorems.{FirstLost}
 use Rattle.verdicts.proofs.Chain.{stops-13, stops-14, stops-15, passed, some-found, none-found}
 use Rattle.verdicts.proofs.Tested.{result-fit, open-place, zero-cycle-false, orders-searched, search-passes, search-stops}
@@ -259,36 +257,6 @@ module _ {graph : GraphReading} {proposal : ProposalReading} {g : Graph} {propos
         let delay = front (r .count) (r .delay) in
         let ends = held-fit .ends (heldEdge source sink delay j) (edge-in source sink delay j below) in
         (omega (arith, ends .0, as-many-processors), omega (arith, ends .1, as-many-processors))
-
-    -- as many edges as the graph has and those proposed: every edge was kept
-    pub all-among :
-        length (front (r .count) (r .source)) ≡ length (front (graph .tasks + graph .edges) (graph .source)) + proposal .edges →
-        Among (front (graph .tasks + graph .edges) (graph .source)) (front (graph .tasks + graph .edges) (graph .sink))
-        (front (graph .tasks + graph .edges) (graph .delay)) (frontResult r)
-    unfolding resultOf cyclic
-    all-among whole j below =
-        let source = front (graph .tasks + graph .edges) (graph .source) in
-        let sink = front (graph .tasks + graph .edges) (graph .sink) in
-        let delay = front (graph .tasks + graph .edges) (graph .delay) in
-        let test = onCycle (graph .tasks) (frontEdges graph) in
-        let parts : r .count ≡ length (keep test (frontEdges graph)) + length (frontProposed proposal) =
-        made .as-many ∙ length-append (keep test (frontEdges graph)) (frontProposed proposal) in
-        let more : length (frontProposed proposal) ≡ proposal .edges = ap length (proposed-fronts .held) ∙ sym (proposed-fronts .edges-are) in
-        let as-many : length (keep test (frontEdges graph)) ≡ length (frontEdges graph) =
-        omega (arith, parts, more, whole, front-length (r .count) (r .source) (made .source-room) (made .few), edges-length source sink delay) in
-        let kept : keep test (frontEdges graph) ≡ frontEdges graph = keep-whole test (frontEdges graph) as-many in
-        let there : heldEdge source sink delay j ∈ frontEdges graph = edge-in source sink delay j below in
-        subst (λ (es : List Edge). heldEdge source sink delay j ∈ es) (sym (result-held ∙ (sym result-is ∙ ap (λ (es : List Edge). es ++ frontProposed proposal) kept)))
-        (Memᴰ·append-left (frontProposed proposal) there)
-
-    -- the front of a table after the result's least delays were written
-    pub table-within : {table : List ℕ} (past : List ℕ) → table ≡ delayTable (graph .tasks) (frontResult r) ++ past → graph .tasks * graph .tasks ≤ length table
-    table-within past written = table-room (graph .tasks) (frontResult r) past written
-
-    pub table-size :
-        {table : List ℕ} (past : List ℕ) → table ≡ delayTable (graph .tasks) (frontResult r) ++ past →
-        length (front (graph .tasks * graph .tasks) table) ≡ graph .tasks * graph .tasks
-    table-size past written = ap length (table-front (graph .tasks) (frontResult r) past written) ∙ table-length (graph .tasks) (frontResult r)
 
     pub result-within : (r .count ≤ length (r .source)) × (r .count ≤ length (r .sink)) × (r .count ≤ length (r .delay))
     result-within =

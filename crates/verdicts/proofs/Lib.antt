@@ -2,6 +2,6 @@
 pub mod Chain
 pub mod Tested
 pub mod Meanings
-pub mod Tables
+pub mod Orders
 pub mod Judging
 pub mod Sizes

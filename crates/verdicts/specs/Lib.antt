@@ -1,3 +1,3 @@
 pub mod Verdicts
-pub mod Tables
+pub mod Searches
 pub mod Theorems

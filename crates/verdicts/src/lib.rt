@@ -1,20 +1,20 @@
 // Refusals 13 to 15: the verdict on proposed edges beside an accepted graph. No file is asked for: the edges may come from anywhere.
 ghost use mathlib.Core.Path.{_≡_};
 ghost use mathlib.Core.List.{List};
-ghost use mathlib.Core.Bool.{true};
-ghost use Prim.Native.Nat.{ℕ, _+_, _*_, _≤_, _<_};
+ghost use Prim.Native.Nat.{ℕ, _≤_, _<_};
 ghost use lib.ListN.{length};
 ghost use Rattle.model.specs.Tasks.{Edge};
 ghost use Rattle.model.specs.Graph.{Graph};
-ghost use Rattle.model.specs.Compute.{orderHolds};
 ghost use Rattle.records.specs.Columns.{edgesOf, at};
-ghost use Rattle.delays.specs.Delays.{Fit, edge};
+ghost use Rattle.delays.specs.Delays.{Fit};
 ghost use Rattle.reach.specs.Reach.{ReachesOn};
-ghost use Rattle.ways.specs.Ways.{StepsOf};
 ghost use Rattle.readings.specs.Working.{graphFrom, proposalFrom};
 ghost use Rattle.verdicts.specs.Verdicts.{judgement, OpenPlace, Judgeable};
-ghost use Rattle.verdicts.specs.Tables.{FoundCyclic, Among, FirstAbove, NoneAbove, lostFrom};
+ghost use Rattle.verdicts.specs.Searches.{FoundCyclic, lostFrom};
 use delays::FAR;
+use delays::WIDTH;
+use delays::finish_row;
+use delays::take_steps;
 use files::PASSED;
 use files::Refusal;
 use reach::leads_to;
@@ -23,9 +23,6 @@ use reach::processor_of;
 use readings::GraphNumbers;
 use readings::ProposalNumbers;
 use results::result_edges_into;
-use tables::least_table;
-use ways::least_row;
-use ways::take_steps;
 
 // The verdict on proposed edges: the refusal, and the latency of the result if it is accepted or late, 0 otherwise.
 pub struct Judgement {
@@ -57,76 +54,8 @@ fn cyclic_place<'a>(source: &'a [u8], sink: &'a [u8], processor: &'a [u8], words
     0
 }
 
-// 14's refusal at the first edge of a graph's file whose delay is below the entry of its ends; processor edges stand first in the lists, one for
-// each task.
-fn first_above<'a>(
-    source: &'a [u8],
-    sink: &'a [u8],
-    delay: &'a [u8],
-    table: &'a [u16],
-    tasks: usize,
-) -> Refusal
-    requires { ⌜ (length (now sink) ≡ length (now source)) × (length (now delay) ≡ length (now source)) ⌝ }
-    requires { ⌜ (tasks ≤ length (now source)) × (length (now source) ≤ 320) ⌝ }
-    requires { ⌜ (tasks ≤ 64) × (length (now table) ≡ tasks * tasks) ⌝ }
-    requires { ⌜ Fit tasks (edgesOf (now source) (now sink) (now delay)) ⌝ }
-    ensures { λ r. ⌜ FirstAbove tasks (now (source .entry)) (now (sink .entry)) (now (delay .entry)) (now (table .entry)) r ⌝ }
-{
-    let mut j = 0;
-    while tasks + j < source.len() {
-        let from = source[tasks + j] as usize;
-        let to = sink[tasks + j] as usize;
-        if (delay[tasks + j] as u16) < table[from * tasks + to] {
-            return Refusal {
-                number: 14,
-                place: j as u32 + 1,
-            };
-        }
-        j += 1;
-    }
-    PASSED
-}
-
-// Whether no edge of a graph's file from number `first` on, counted from 0, has a delay below the entry of its ends.
-fn none_above<'a>(
-    source: &'a [u8],
-    sink: &'a [u8],
-    delay: &'a [u8],
-    table: &'a [u16],
-    tasks: usize,
-    first: usize,
-) -> bool
-    requires { ⌜ (length (now sink) ≡ length (now source)) × (length (now delay) ≡ length (now source)) ⌝ }
-    requires { ⌜ (tasks + first ≤ length (now source)) × (length (now source) ≤ 320) ⌝ }
-    requires { ⌜ (tasks ≤ 64) × (length (now table) ≡ tasks * tasks) ⌝ }
-    requires { ⌜ Fit tasks (edgesOf (now source) (now sink) (now delay)) ⌝ }
-    ensures { λ r. ⌜ (r ≡ true → NoneAbove tasks (now (source .entry)) (now (sink .entry)) (now (delay .entry)) (now (table .entry)) first) ⌝ }
-{
-    let mut i = first;
-    while tasks + i < source.len() {
-        let from = source[tasks + i] as usize;
-        let to = sink[tasks + i] as usize;
-        if (delay[tasks + i] as u16) < table[from * tasks + to] {
-            return false;
-        }
-        i += 1;
-    }
-    true
-}
-
-// Whether a result holds the order of an edge, by its single steps: the least delays out of the edge's source decide.
-fn order_held(source: u8, sink: u8, delay: u8, steps: &[u16], tasks: usize) -> bool
-    requires { ⌜ (tasks ≤ 64) × (length (now steps) ≡ tasks * tasks) × (source < tasks) × (sink < tasks) ⌝ }
-    ensures { λ r. ⌜ ((rs : List Edge) → StepsOf tasks rs (now (steps .entry)) → r ≡ orderHolds tasks rs (edge source sink delay)) ⌝ }
-{
-    let mut row: [u16; 64] = [FAR; 64];
-    least_row(steps, tasks, source as usize, &mut row);
-    row[sink as usize] <= delay as u16
-}
-
-// 14: the first edge of a graph's file whose order is lost in the result. None is if the result has as many edges as the graph and those proposed: then it
-// has every edge. An edge of the result with the same ends and no more delay holds an order. Where only one order lacks such an edge, the least delays out of
-// its source decide; where more do, all least delays are worked out.
+// 14: the first edge of a graph's file whose order is lost in the result. An edge of the result with the same ends and no more delay holds an order; where
+// there is none, the row of least delays out of the order's source decides. Processor edges stand first in the lists, one for each task.
 fn lost_order<'a>(
     source: &'a [u8],
     sink: &'a [u8],
@@ -134,54 +63,38 @@ fn lost_order<'a>(
     result_source: &'a [u8],
     result_sink: &'a [u8],
     result_delay: &'a [u8],
-    proposed: usize,
     tasks: usize,
-    sequence: &'a [u8],
 ) -> Refusal
     requires { ⌜ (length (now sink) ≡ length (now source)) × (length (now delay) ≡ length (now source)) ⌝ }
     requires { ⌜ (length (now «result_sink») ≡ length (now «result_source»)) × (length (now «result_delay») ≡ length (now «result_source»)) ⌝ }
-    requires { ⌜ (tasks ≤ length (now source)) × (length (now source) ≤ 320) × (tasks ≤ 64) × (proposed ≤ 256) × (length (now sequence) ≤ 64) ⌝ }
-    requires { ⌜ (length (now «result_source») ≡ length (now source) + proposed → Among (now source) (now sink) (now delay) (edgesOf (now «result_source») (now «result_sink») (now «result_delay»))) ⌝ }
+    requires { ⌜ (tasks ≤ length (now source)) × (length (now source) ≤ 320) × (tasks ≤ 64) ⌝ }
     requires { ⌜ Fit tasks (edgesOf (now source) (now sink) (now delay)) ⌝ }
     requires { ⌜ Fit tasks (edgesOf (now «result_source») (now «result_sink») (now «result_delay»)) ⌝ }
     ensures { λ r. ⌜ r ≡ lostFrom tasks (edgesOf (now («result_source» .entry)) (now («result_sink» .entry)) (now («result_delay» .entry))) (now (source .entry)) (now (sink .entry)) (now (delay .entry)) ⌝ }
 {
-    if result_source.len() == source.len() + proposed {
-        return PASSED;
-    }
-    let mut table: [u16; 4096] = [65535; 4096];
-    take_steps(result_source, result_sink, result_delay, tasks, &mut table);
-    let open = first_above(source, sink, delay, &table[0..tasks * tasks], tasks);
-    if open.number == 0 {
-        return open;
-    }
-    let next = open.place as usize;
-    if none_above(source, sink, delay, &table[0..tasks * tasks], tasks, next) {
-        let alone = tasks + next - 1;
-        if order_held(
-            source[alone],
-            sink[alone],
-            delay[alone],
-            &table[0..tasks * tasks],
-            tasks,
-        ) {
-            return PASSED;
+    let mut known: [u16; 4096] = [FAR; 4096];
+    take_steps(result_source, result_sink, result_delay, &mut known);
+    let mut done: u64 = 0;
+    let mut j = 0;
+    while tasks + j < source.len() {
+        let from = source[tasks + j] as usize;
+        let at = from * WIDTH + sink[tasks + j] as usize;
+        let most = delay[tasks + j] as u16;
+        if most < known[at] {
+            done = finish_row(from, tasks, done, &mut known);
+            if most < known[at] {
+                return Refusal {
+                    number: 14,
+                    place: j as u32 + 1,
+                };
+            }
         }
-        return open;
+        j += 1;
     }
-    least_table(
-        result_source,
-        result_sink,
-        result_delay,
-        tasks,
-        sequence,
-        &mut table,
-    );
-    first_above(source, sink, delay, &table[0..tasks * tasks], tasks)
+    PASSED
 }
 
-// Judges proposed edges beside a graph, whose lists stand apart from their numbers. The result's latency comes before 14, since the sequence in which its
-// first turn takes the tasks is one along which its least delays are quick to find; any will do.
+// Judges proposed edges beside a graph, whose lists stand apart from their numbers.
 pub fn judge<'a>(
     graph: GraphNumbers,
     processor: &'a [u8],
@@ -234,15 +147,6 @@ pub fn judge<'a>(
             latency: 0,
         };
     }
-    let mut sequence: [u8; 64] = [0; 64];
-    let latency = starts::latency(
-        &result_source[0..count],
-        &result_sink[0..count],
-        &result_delay[0..count],
-        &time[0..tasks],
-        graph.output as usize,
-        &mut sequence,
-    );
     let lost = lost_order(
         &source[0..end],
         &sink[0..end],
@@ -250,9 +154,7 @@ pub fn judge<'a>(
         &result_source[0..count],
         &result_sink[0..count],
         &result_delay[0..count],
-        proposed,
         tasks,
-        &sequence[0..tasks],
     );
     if lost.number != 0 {
         return Judgement {
@@ -260,6 +162,13 @@ pub fn judge<'a>(
             latency: 0,
         };
     }
+    let latency = starts::latency(
+        &result_source[0..count],
+        &result_sink[0..count],
+        &result_delay[0..count],
+        &time[0..tasks],
+        graph.output as usize,
+    );
     if graph.bound < latency {
         return Judgement {
             refusal: LATE,

@@ -1,149 +1,121 @@
-//! Least delays.
+//! Least delays, each row finished before the next is begun.
 
-use crate::files::{Arc, MOST_EDGES, MOST_TASKS};
-use crate::schedule::{front, ones, FirstTurn, Graph, Ring};
+use crate::files::{Arc, MOST_TASKS};
+use crate::schedule::Graph;
 
 /// No path. Least delays are at most 63 × 255; the sum of two of these numbers still fits.
 pub const NONE: i16 = 0x3FFF;
 
-/// All edges of a graph or a result, grouped by source.
-pub struct Outgoing {
-    /// Where each source's group begins; one more for the end.
-    begin: [u16; MOST_TASKS + 1],
-    /// Sink, and delay.
-    ends: [(u8, u8); MOST_TASKS + 2 * MOST_EDGES],
-}
+/// Delays from one task to each.
+pub type Row = [i16; MOST_TASKS];
 
-impl Outgoing {
-    pub fn new(ring: &Ring, tasks: usize, lists: [&[Arc]; 2]) -> Outgoing {
-        let mut outgoing = Outgoing {
-            begin: [0; MOST_TASKS + 1],
-            ends: [(0, 0); MOST_TASKS + 2 * MOST_EDGES],
-        };
-        let begin = &mut outgoing.begin;
-        for arc in lists.iter().copied().flatten() {
-            begin[arc.source() + 1] += 1;
-        }
-        // One processor edge each.
-        for task in 0..tasks {
-            begin[task + 1] += begin[task] + 1;
-        }
-        let mut at = *begin;
-        for (at, own) in at[..tasks]
-            .iter_mut()
-            .zip(ring.next.iter().zip(&ring.delay))
-        {
-            outgoing.ends[*at as usize] = (*own.0, *own.1);
-            *at += 1;
-        }
-        for arc in lists.iter().copied().flatten() {
-            let at = &mut at[arc.source()];
-            outgoing.ends[*at as usize] = (arc.sink() as u8, arc.delay() as u8);
-            *at += 1;
-        }
-        outgoing
-    }
+/// A row for each source.
+pub type Table = [Row; MOST_TASKS];
 
-    /// Sinks and delays of the edges out of a task.
-    pub fn of(&self, task: usize) -> &[(u8, u8)] {
-        &self.ends[self.begin[task] as usize..self.begin[task + 1] as usize]
-    }
-}
-
-/// Least delays, a row for each source and a column for each sink, where a task counts 0 to itself.
-pub type Table<const LANES: usize> = Columns<LANES, LANES>;
-
-/// The columns of some sinks.
-pub type Columns<const ROWS: usize, const LANES: usize> = [[i16; LANES]; ROWS];
-
-/// Makes the table of a graph without a cycle of delay 0, whose tasks stand in this sequence in the first turn.
-pub fn table<const LANES: usize>(
-    outgoing: &Outgoing,
-    first_turn: &FirstTurn,
+/// What is known of the least delays over one or more edges.
+pub struct Known {
     tasks: usize,
-) -> Table<LANES> {
-    columns(outgoing, first_turn, tasks, front(tasks))
+    /// Finished rows have the least of all paths, others the least of single edges.
+    pub rows: Table,
+    /// Which rows are finished.
+    finished: u64,
 }
 
-/// Makes the columns of the sinks in a word, in their sequence.
-///
-/// A row is the least over the edges out of its task of the sink's row and the delay. Rows are made again as long as one that they
-/// follow has changed, the last of the sequence first: so one round does for all paths of delay 0.
-pub fn columns<const ROWS: usize, const LANES: usize>(
-    outgoing: &Outgoing,
-    first_turn: &FirstTurn,
-    tasks: usize,
-    sinks: u64,
-) -> Columns<ROWS, LANES> {
-    let mut table = [[NONE; LANES]; ROWS];
-    for (lane, sink) in ones(sinks).enumerate() {
-        table[sink][lane] = 0;
-    }
-    let sequence = &first_turn.sequence[..tasks];
-    // Tasks are named by their place from the end of the sequence.
-    let mut place = [0; MOST_TASKS];
-    for (at, &task) in sequence.iter().rev().enumerate() {
-        place[task as usize % MOST_TASKS] = at as u8;
-    }
-    let mut followers = [0_u64; MOST_TASKS];
-    for (task, place) in place[..tasks].iter().enumerate() {
-        for &(sink, _) in outgoing.of(task) {
-            followers[sink as usize % MOST_TASKS] |= 1 << place;
+impl Known {
+    pub const NOTHING: Known = Known {
+        tasks: 0,
+        rows: [[NONE; MOST_TASKS]; MOST_TASKS],
+        finished: 0,
+    };
+
+    /// Takes single edges: the processor edges of a graph, and two lists.
+    pub fn take_edges(&mut self, graph: &Graph, lists: [&[Arc]; 2]) {
+        self.tasks = graph.tasks;
+        let own = graph.ring.next.iter().zip(&graph.ring.delay);
+        for (row, (&next, &delay)) in self.rows[..graph.tasks].iter_mut().zip(own) {
+            row[next as usize % MOST_TASKS] = i16::from(delay);
+        }
+        for arc in lists.into_iter().flatten() {
+            let least = &mut self.rows[arc.source()][arc.sink()];
+            *least = (*least).min(arc.delay() as i16);
         }
     }
 
-    let mut stale = front(tasks);
-    let mut ahead = u64::MAX;
-    while stale != 0 {
-        if stale & ahead == 0 {
-            ahead = u64::MAX;
-        }
-        let next = (stale & ahead).trailing_zeros() as usize;
-        ahead = (u64::MAX << 1) << next;
-        stale &= !(1 << next);
-        let task = sequence[tasks - 1 - next] as usize;
-        let mut row = table[task];
-        for &(sink, delay) in outgoing.of(task) {
-            lower(&mut row, &table[sink as usize], i16::from(delay));
-        }
-        if differ(&row, &table[task]) {
-            table[task] = row;
-            stale |= followers[task];
+    /// Takes the edges of an accepted graph and finishes all rows.
+    pub fn fill(&mut self, graph: &Graph) {
+        self.take_edges(graph, [graph.edges(), &[]]);
+        for task in (0..graph.tasks).rev() {
+            self.finish(task);
         }
     }
-    table
+
+    /// The same where a task counts 0 to itself.
+    pub fn fill_from_0(&mut self, graph: &Graph) {
+        self.fill(graph);
+        for (task, row) in self.rows.iter_mut().take(graph.tasks).enumerate() {
+            row[task] = 0;
+        }
+    }
+
+    /// Whether a path of at most its delay leads from an edge's source to its sink. Finishes the source's row only where no single edge
+    /// is enough.
+    pub fn enforces(&mut self, arc: Arc) -> bool {
+        let (source, sink, most) = (arc.source(), arc.sink(), arc.delay() as i16);
+        if self.rows[source][sink] > most && self.finished >> source & 1 == 0 {
+            self.finish(source);
+        }
+        self.rows[source][sink] <= most
+    }
+
+    /// Finishes the row of a task: goes on from tasks to which it has a lesser way than was seen, until there are none. A finished row
+    /// has all ways on from its task, so that they count as seen with it.
+    fn finish(&mut self, task: usize) {
+        // A bound that the compiler sees spares a test at each index.
+        let tasks = self.tasks.min(MOST_TASKS);
+        let mut lowered = self.rows[task];
+        let mut seen = [NONE; MOST_TASKS];
+        let mut at = task;
+        while let Some(next) = next_below(&lowered, &seen, tasks, at) {
+            at = next;
+            let (row, way) = (&self.rows[at], lowered[at]);
+            lower(&mut lowered, row, way);
+            if self.finished >> at & 1 == 1 {
+                lower(&mut seen, row, way);
+            }
+            seen[at] = way;
+        }
+        self.rows[task] = lowered;
+        self.finished |= 1 << task;
+    }
+}
+
+/// The next of so many tasks after one, round the end, that has less in a row than in the other.
+#[inline(always)]
+fn next_below(row: &Row, other: &Row, tasks: usize, after: usize) -> Option<usize> {
+    // All at once, which is quicker where there is none.
+    let pairs = row[..tasks].iter().zip(&other[..tasks]);
+    if pairs.fold(true, |none, (one, other)| none & (one >= other)) {
+        return None;
+    }
+    let below = |&task: &usize| row[task] < other[task];
+    (after + 1..tasks)
+        .find(below)
+        .or_else(|| (0..=after).find(below))
 }
 
 /// Lowers a row to another and so much more.
 #[inline(always)]
-fn lower<const LANES: usize>(row: &mut [i16; LANES], other: &[i16; LANES], more: i16) {
+fn lower(row: &mut Row, other: &Row, more: i16) {
     for (to, from) in row.iter_mut().zip(other) {
-        *to = (*to).min(from.wrapping_add(more));
+        *to = (*to).min(from + more);
     }
-}
-
-#[inline(always)]
-fn differ<const LANES: usize>(one: &[i16; LANES], other: &[i16; LANES]) -> bool {
-    let mut bits = 0;
-    for (one, other) in one.iter().zip(other) {
-        bits |= one ^ other;
-    }
-    bits != 0
 }
 
 /// Writes an accepted graph's least delays.
 pub fn write(graph: &Graph, list: &mut [u16]) {
-    match graph.tasks {
-        0..=16 => write_table::<16>(graph, list),
-        17..=32 => write_table::<32>(graph, list),
-        _ => write_table::<64>(graph, list),
-    }
-}
-
-fn write_table<const LANES: usize>(graph: &Graph, list: &mut [u16]) {
-    let outgoing = Outgoing::new(&graph.ring, graph.tasks, [graph.edges(), &[]]);
-    let table = table::<LANES>(&outgoing, &graph.first_turn, graph.tasks);
-    for (task, (to, row)) in list.chunks_exact_mut(graph.tasks).zip(&table).enumerate() {
+    let mut known = Known::NOTHING;
+    known.fill(graph);
+    for (to, row) in list.chunks_exact_mut(graph.tasks).zip(&known.rows) {
         for (to, &delay) in to.iter_mut().zip(row) {
             *to = if delay == NONE {
                 u16::MAX
@@ -151,7 +123,5 @@ fn write_table<const LANES: usize>(graph: &Graph, list: &mut [u16]) {
                 delay as u16
             };
         }
-        // Round its own processor; no cycle has less.
-        to[task] = 1;
     }
 }

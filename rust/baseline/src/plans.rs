@@ -1,6 +1,6 @@
 //! The plan.
 
-use crate::delays::{table, Outgoing, Table, NONE};
+use crate::delays::{Known, Table, NONE};
 use crate::files::{Arc, MOST_EDGES, MOST_TASKS};
 use crate::redundancy::marks_of;
 use crate::schedule::{ones, FirstTurn, Graph, Undelayed};
@@ -8,28 +8,17 @@ use resync::raw::{Edge, PlanAnswer, Refusal};
 
 /// Writes the plan of an accepted graph. The list has room for the graph's edges.
 pub fn write(graph: &Graph, list: &mut [Edge]) -> PlanAnswer {
-    match graph.tasks {
-        0..=16 => write_by::<16>(graph, list),
-        17..=32 => write_by::<32>(graph, list),
-        _ => write_by::<64>(graph, list),
-    }
-}
-
-fn write_by<const LANES: usize>(graph: &Graph, list: &mut [Edge]) -> PlanAnswer {
-    let outgoing = Outgoing::new(&graph.ring, graph.tasks, [graph.edges(), &[]]);
-    let delays = table::<LANES>(&outgoing, &graph.first_turn, graph.tasks);
-    let mut left = Left::needed(graph, &outgoing, &delays);
-    let (mut steps, mut latency) = (0, graph.latency);
-    // A single edge is left as it is.
-    if left.count > 1 {
-        let mut stage = Stage::first(graph, left, delays);
-        while let Some((source, sink)) = stage.best() {
-            stage.step(source, sink);
-            steps += 1;
-        }
-        latency = stage.ends[graph.output] as u32;
-        left = stage.left;
-    }
+    let mut known = Known::NOTHING;
+    known.fill_from_0(graph);
+    let delays = &known.rows;
+    let mut left = Left::needed(graph, delays);
+    let (steps, latency) = match (left.count, graph.tasks) {
+        // A single edge is left as it is.
+        (0..=1, _) => (0, graph.latency),
+        (_, 0..=16) => take_steps::<16>(graph, &mut left, delays),
+        (_, 17..=32) => take_steps::<32>(graph, &mut left, delays),
+        _ => take_steps::<64>(graph, &mut left, delays),
+    };
     for (to, arc) in list.iter_mut().zip(&left.arcs[..left.count]) {
         *to = Edge {
             source: arc.source() as u8,
@@ -45,6 +34,17 @@ fn write_by<const LANES: usize>(graph: &Graph, list: &mut [Edge]) -> PlanAnswer 
     }
 }
 
+/// Takes all steps, and returns their number and the latency then.
+fn take_steps<const LANES: usize>(graph: &Graph, left: &mut Left, delays: &Table) -> (u32, u32) {
+    let mut stage = Stage::<LANES>::first(graph, left, delays);
+    let mut steps = 0;
+    while let Some((source, sink)) = stage.best() {
+        stage.step(source, sink);
+        steps += 1;
+    }
+    (steps, stage.ends[graph.output] as u32)
+}
+
 /// The feedforward edges left.
 struct Left {
     arcs: [Arc; MOST_EDGES],
@@ -53,12 +53,8 @@ struct Left {
 
 impl Left {
     /// Those of the file that are not redundant.
-    fn needed<const LANES: usize>(
-        graph: &Graph,
-        outgoing: &Outgoing,
-        delays: &Table<LANES>,
-    ) -> Left {
-        let marks = marks_of(graph, outgoing, delays);
+    fn needed(graph: &Graph, delays: &Table) -> Left {
+        let marks = marks_of(graph, delays);
         let (mut arcs, mut count) = ([Arc(0); MOST_EDGES], 0);
         for (at, &arc) in graph.edges().iter().enumerate() {
             let redundant = marks[at / 64 % 4] >> (63 - at % 64) & 1 == 1;
@@ -73,14 +69,31 @@ impl Left {
 /// Least delays, where a task counts 0 to itself: a row for each source, and the same by sink.
 #[derive(Clone)]
 struct Delays<const LANES: usize> {
-    from: Table<LANES>,
-    to: Table<LANES>,
+    from: [[i16; LANES]; LANES],
+    to: [[i16; LANES]; LANES],
+}
+
+impl<const LANES: usize> Delays<LANES> {
+    /// The front of a table that has no more tasks.
+    fn of(table: &Table) -> Self {
+        let mut delays = Delays {
+            from: [[NONE; LANES]; LANES],
+            to: [[NONE; LANES]; LANES],
+        };
+        for (source, (to, row)) in delays.from.iter_mut().zip(table).enumerate() {
+            to.copy_from_slice(&row[..LANES]);
+            for (sink, &delay) in to.iter().enumerate() {
+                delays.to[sink][source] = delay;
+            }
+        }
+        delays
+    }
 }
 
 /// The plan so far.
 struct Stage<'a, const LANES: usize> {
     graph: &'a Graph,
-    left: Left,
+    left: &'a mut Left,
     delays: Delays<LANES>,
     /// How many edges left each pair subsumes, candidate or not: a row for each sink. Kept from step to step.
     counts: [[i16; LANES]; LANES],
@@ -92,11 +105,8 @@ struct Stage<'a, const LANES: usize> {
 }
 
 impl<'a, const LANES: usize> Stage<'a, LANES> {
-    fn first(graph: &'a Graph, left: Left, delays: Table<LANES>) -> Self {
-        let delays = Delays {
-            to: turned(&delays),
-            from: delays,
-        };
+    fn first(graph: &'a Graph, left: &'a mut Left, table: &Table) -> Self {
+        let delays = Delays::of(table);
         let mut counts = [[0; LANES]; LANES];
         for &arc in &left.arcs[..left.count] {
             shift::<LANES, false, true>(&mut counts, arc, &delays, &delays);
@@ -278,15 +288,4 @@ fn lower<const LANES: usize>(row: &mut [i16; LANES], other: &[i16; LANES], more:
 
 fn largest<const LANES: usize>(counts: &[i16; LANES]) -> i16 {
     counts.iter().fold(0, |most, &count| most.max(count))
-}
-
-/// Rows as columns.
-fn turned<const LANES: usize>(table: &Table<LANES>) -> Table<LANES> {
-    let mut turned = [[NONE; LANES]; LANES];
-    for (source, row) in table.iter().enumerate() {
-        for (sink, &delay) in row.iter().enumerate() {
-            turned[sink][source] = delay;
-        }
-    }
-    turned
 }

@@ -1,9 +1,9 @@
 //! The verdict on a proposal.
 
-use crate::delays::{columns, Outgoing};
-use crate::files::{read_proposal, Arc, MOST_EDGES, MOST_TASKS};
+use crate::delays::Known;
+use crate::files::{read_proposal, Arc, MOST_EDGES};
 use crate::refuse;
-use crate::schedule::{ones, FirstTurn, Graph, Undelayed};
+use crate::schedule::{FirstTurn, Graph, Undelayed};
 use resync::raw::{Refusal, VerdictAnswer};
 
 /// Which processors paths lead to from each. Tasks of one processor lead to one another, so this says it of tasks.
@@ -43,20 +43,19 @@ pub fn judge(graph: &Graph, proposal: &[u8]) -> Result<VerdictAnswer, Refusal> {
 
     let reach = Reach::new(graph, [graph.edges(), &[]]);
     let (mut kept, mut keeping) = ([Arc(0); MOST_EDGES], 0);
-    // Places of the feedforward edges, from 0.
-    let (mut dropped, mut dropping) = ([0; MOST_EDGES], 0);
-    for (at, &arc) in graph.edges().iter().enumerate() {
-        let feedback = reach.on_cycle(graph, arc);
+    for &arc in graph.edges() {
         kept[keeping % MOST_EDGES] = arc;
-        dropped[dropping % MOST_EDGES] = at as u8;
-        keeping += usize::from(feedback);
-        dropping += usize::from(!feedback);
+        keeping += usize::from(reach.on_cycle(graph, arc));
     }
-    let (kept, dropped) = (&kept[..keeping], &dropped[..dropping]);
+    let kept = &kept[..keeping];
 
     let reach = Reach::new(graph, [kept, proposed]);
     if let Some(at) = proposed.iter().position(|&arc| reach.on_cycle(graph, arc)) {
         return refuse(13, at + 1);
+    }
+
+    if let Some(at) = first_lost(graph, [kept, proposed]) {
+        return refuse(14, at + 1);
     }
 
     let mut undelayed = Undelayed::new();
@@ -66,11 +65,6 @@ pub fn judge(graph: &Graph, proposal: &[u8]) -> Result<VerdictAnswer, Refusal> {
     let mut turn = FirstTurn::new();
     let made = turn.fill(&undelayed, &graph.time, graph.tasks);
     debug_assert!(made, "cycles are those of the accepted graph");
-    let outgoing = Outgoing::new(&graph.ring, graph.tasks, [kept, proposed]);
-    if let Some(at) = first_lost(graph, dropped, &outgoing, &turn) {
-        return refuse(14, at + 1);
-    }
-
     let latency = turn.starts[graph.output] + graph.time[graph.output];
     let margin = graph.bound as i32 - latency as i32;
     if margin < 0 {
@@ -88,55 +82,10 @@ pub fn judge(graph: &Graph, proposal: &[u8]) -> Result<VerdictAnswer, Refusal> {
     })
 }
 
-/// The first of these edges whose order the result does not enforce.
-fn first_lost(
-    graph: &Graph,
-    dropped: &[u8],
-    outgoing: &Outgoing,
-    turn: &FirstTurn,
-) -> Option<usize> {
-    // Those for which no equal or stronger edge is found soon: most proposals keep many edges.
-    let (mut open, mut count) = ([0; MOST_EDGES], 0);
-    let mut sinks = 0_u64;
-    for &at in dropped {
-        let arc = graph.arcs[usize::from(at)];
-        let as_strong = |&(sink, delay): &(u8, u8)| {
-            usize::from(sink) == arc.sink() && usize::from(delay) <= arc.delay()
-        };
-        let others = outgoing.of(arc.source());
-        if others.len() > 16 || !others.iter().any(as_strong) {
-            open[count % MOST_EDGES] = at;
-            count += 1;
-            sinks |= 1 << arc.sink();
-        }
-    }
-    let search = match (graph.tasks, sinks.count_ones()) {
-        (_, 0) => return None,
-        (0..=16, _) => first_lost_by::<16, 16>,
-        (_, 1..=8) => first_lost_by::<64, 8>,
-        (_, 9..=16) => first_lost_by::<64, 16>,
-        (_, 17..=32) => first_lost_by::<64, 32>,
-        _ => first_lost_by::<64, 64>,
-    };
-    search(graph, &open[..count], sinks, outgoing, turn)
-}
-
-/// The same by the columns of these sinks.
-fn first_lost_by<const ROWS: usize, const LANES: usize>(
-    graph: &Graph,
-    open: &[u8],
-    sinks: u64,
-    outgoing: &Outgoing,
-    turn: &FirstTurn,
-) -> Option<usize> {
-    let table = columns::<ROWS, LANES>(outgoing, turn, graph.tasks, sinks);
-    let mut lane = [0; MOST_TASKS];
-    for (at, sink) in ones(sinks).enumerate() {
-        lane[sink] = at;
-    }
-    let mut places = open.iter().map(|&at| usize::from(at));
-    places.find(|&at| {
-        let arc = graph.arcs[at];
-        table[arc.source()][lane[arc.sink()]] > arc.delay() as i16
-    })
+/// The first of the graph's edges whose order the result of these edges does not enforce.
+fn first_lost(graph: &Graph, result: [&[Arc]; 2]) -> Option<usize> {
+    let mut known = Known::NOTHING;
+    known.take_edges(graph, result);
+    let mut arcs = graph.edges().iter();
+    arcs.position(|&arc| !known.enforces(arc))
 }

@@ -13,9 +13,9 @@ use Rattle.needed.proofs.first_stage.Tie as tie
 
 least-table-requires : tie.Need-least-table-requires
 least-table-requires c κs =
-    let asked = c .before .before .before .before .before .before .before .before .before .pre in
+    let asked = c .before .before .before .before .before .before .before .before .pre in
     let given = asked .1 .0 .1 in
-    (asked .0, ((few-tasks given, asked .1 .1 .0 .1, asked .1 .1 .0 .0), lists-fit given))
+    (asked .0, ((few-tasks given, asked .1 .1 .0), lists-fit given))
 
 mul-redundant-marks : tie.Need-mul-redundant-marks
 mul-redundant-marks c = search needs
@@ -31,7 +31,7 @@ part-redundant-marks-end c = search needs
 
 redundant-marks-requires : tie.Need-redundant-marks-requires
 redundant-marks-requires c κs =
-    let start = c .before .before .before .before .before .before .before .before .before .before .before .before .before .before in
+    let start = c .before .before .before .before .before .before .before .before .before .before .before .before .before in
     let asked = start .pre in
     let given = asked .1 .0 .1 in
     let args = start .args in
@@ -39,28 +39,28 @@ redundant-marks-requires c κs =
     (asked .0, ((few-tasks given, few-edges given), (lists-fit given, front)))
 
 sub-keep-needed : tie.Need-sub-keep-needed
-sub-keep-needed c = enough (c .before .before .before .before .before .before .before .before .before .before .before .before .before .before .before .pre .1 .0 .1)
+sub-keep-needed c = enough (c .before .before .before .before .before .before .before .before .before .before .before .before .before .before .pre .1 .0 .1)
 
 part-keep-needed-start : tie.Need-part-keep-needed-start
-part-keep-needed-start c = enough (c .before .before .before .before .before .before .before .before .before .before .before .before .before .before .before .pre .1 .0 .1)
+part-keep-needed-start c = enough (c .before .before .before .before .before .before .before .before .before .before .before .before .before .before .pre .1 .0 .1)
 
 part-keep-needed-end : tie.Need-part-keep-needed-end
 part-keep-needed-end c = search needs
 
 sub-keep-needed-2 : tie.Need-sub-keep-needed-2
-sub-keep-needed-2 c = enough (c .before .before .before .before .before .before .before .before .before .before .before .before .before .before .before .before .pre .1 .0 .1)
+sub-keep-needed-2 c = enough (c .before .before .before .before .before .before .before .before .before .before .before .before .before .before .before .pre .1 .0 .1)
 
 part-keep-needed-start-2 : tie.Need-part-keep-needed-start-2
-part-keep-needed-start-2 c = enough (c .before .before .before .before .before .before .before .before .before .before .before .before .before .before .before .before .pre .1 .0 .1)
+part-keep-needed-start-2 c = enough (c .before .before .before .before .before .before .before .before .before .before .before .before .before .before .before .pre .1 .0 .1)
 
 part-keep-needed-end-2 : tie.Need-part-keep-needed-end-2
 part-keep-needed-end-2 c = search needs
 
 sub-keep-needed-3 : tie.Need-sub-keep-needed-3
-sub-keep-needed-3 c = enough (c .before .before .before .before .before .before .before .before .before .before .before .before .before .before .before .before .before .pre .1 .0 .1)
+sub-keep-needed-3 c = enough (c .before .before .before .before .before .before .before .before .before .before .before .before .before .before .before .before .pre .1 .0 .1)
 
 part-keep-needed-start-3 : tie.Need-part-keep-needed-start-3
-part-keep-needed-start-3 c = enough (c .before .before .before .before .before .before .before .before .before .before .before .before .before .before .before .before .before .pre .1 .0 .1)
+part-keep-needed-start-3 c = enough (c .before .before .before .before .before .before .before .before .before .before .before .before .before .before .before .before .pre .1 .0 .1)
 
 part-keep-needed-end-3 : tie.Need-part-keep-needed-end-3
 part-keep-needed-end-3 c = search needs
@@ -79,7 +79,7 @@ part-keep-needed-end-4 c = search needs
 
 keep-needed-requires : tie.Need-keep-needed-requires
 keep-needed-requires c κs =
-    let start = c .before .before .before .before .before .before .before .before .before .before .before .before .before .before .before .before .before .before .before .before .before .before .before in
+    let start = c .before .before .before .before .before .before .before .before .before .before .before .before .before .before .before .before .before .before .before .before .before .before in
     let asked = start .pre in
     let given = asked .1 .0 .1 in
     let args = start .args in
@@ -107,7 +107,7 @@ same-length-4 c = search needs
 
 returns : tie.Need-returns
 returns c =
-    let start = c .before .before .before .before .before .before .before .before .before .before .before .before .before .before .before .before .before .before .before .before .before .before .before .before .before .before .before .before .before .before in
+    let start = c .before .before .before .before .before .before .before .before .before .before .before .before .before .before .before .before .before .before .before .before .before .before .before .before .before .before .before .before .before in
     let lengths = start .pre .0 in
     let args = start .args in
     let es = edgesOf (args .source .now) (args .sink .now) (args .delay .now) in

@@ -10,17 +10,17 @@ slice-aggregate-first-stage c = search needs
 
 first-stage-requires : tie.Need-first-stage-requires
 first-stage-requires c κs =
-    let asked = c .before .before .before .before .before .before .before .before .before .before .before .before .pre in
+    let asked = c .before .before .before .before .before .before .before .before .before .before .before .pre in
     let lent = asked .1 .0 .1 in
     let few = few-tasks lent in
-    (asked .0, ((asked .1 .0 .0, listed lent), ((asked .1 .1 .0, mul-le-mul few few), asked .1 .1 .1)))
+    (asked .0, ((asked .1 .0 .0, listed lent), (mul-le-mul few few, asked .1 .1)))
 
 slice-aggregate-plan-from : tie.Need-slice-aggregate-plan-from
 slice-aggregate-plan-from c = search needs
 
 plan-from-requires : tie.Need-plan-from-requires
 plan-from-requires c κs =
-    let asked = c .before .before .before .before .before .before .before .before .before .before .before .before .before .before .before .before .before .before .before .before .before .before .before .before .pre in
+    let asked = c .before .before .before .before .before .before .before .before .before .before .before .before .before .before .before .before .before .before .before .before .before .before .before .pre in
     let g = asked .1 .0 .0 in
     let lent = asked .1 .0 .1 in
     let stage = c .before .before .before .before .before .before .before .before .before .before .before .first-stage .ensures in

@@ -1,10 +1,10 @@
 -- `reach::processors_used` meets its contract: after v steps the number held is at most 15, and no processor of the first v tasks is above it.
-use mathlib.Core.Path.{_≡_, sym, ap, subst}
+use mathlib.Core.Path.{_≡_, sym, subst}
 use mathlib.Core.Logic.{_⊎_, inl, inr}
 use mathlib.Core.List.{List}
 use Prim.Native.Nat.{ℕ, suc, _+_, _-_, _≤_, _<_, max}
 use native.Mathlib.Omega.{arith}
-use lib.ListN.{length, getD}
+use lib.ListN.{length}
 use Rattle.model.proofs.Basics.{below-suc}
 use Rattle.records.specs.Columns.{at}
 use Rattle.reach.proofs.processors_used.Statement.{statement}

@@ -18,34 +18,31 @@ loop-holds : tie.Need-loop-holds Inv-loop μ-loop
 loop-holds c = (omega arith, sum-none)
 
 add-lesser : tie.Need-add-lesser Inv-loop μ-loop
-add-lesser c = omega (arith, c .before .before .before .before .pre, c .before .before .before .before .fits)
+add-lesser c = omega (arith, c .before .before .before .before .pre .0, c .before .before .before .before .fits)
 
 mul-lesser : tie.Need-mul-lesser Inv-loop μ-loop
-mul-lesser c = omega (arith, c .before .before .before .before .pre, c .before .before .before .before .fits)
+mul-lesser c = omega (arith, c .before .before .before .before .pre .0, c .before .before .before .before .fits)
 
 shared-slice-read-lesser : tie.Need-shared-slice-read-lesser Inv-loop μ-loop
-shared-slice-read-lesser c = omega (arith, c .before .before .before .before .before .pre, c .before .before .before .before .before .fits)
+shared-slice-read-lesser c = omega (arith, c .before .before .before .before .before .pre .0)
 
 lesser-requires : tie.Need-lesser-requires Inv-loop μ-loop
 lesser-requires c κs = search needs
 
-add-lesser-2 : tie.Need-add-lesser-2 Inv-loop μ-loop
-add-lesser-2 c = omega (arith, c .before .before .before .before .before .before .pre, c .before .before .before .before .before .before .fits)
-
-mul-lesser-2 : tie.Need-mul-lesser-2 Inv-loop μ-loop
-mul-lesser-2 c = omega (arith, c .before .before .before .before .before .before .pre, c .before .before .before .before .before .before .fits)
-
-shared-slice-read-lesser-2 : tie.Need-shared-slice-read-lesser-2 Inv-loop μ-loop
-shared-slice-read-lesser-2 c = omega (arith, c .before .before .before .before .before .before .before .pre, c .before .before .before .before .before .before .before .fits)
-
-lesser-requires-2 : tie.Need-lesser-requires-2 Inv-loop μ-loop
-lesser-requires-2 c κs = search needs
-
 add-sum : tie.Need-add-sum Inv-loop μ-loop
-add-sum c = omega (arith, c .before .before .lesser .ensures, c .lesser2 .ensures)
+add-sum c = omega (arith, c .before .before .before .before .before .before .pre .1, c .before .before .before .before .before .before .fits)
+
+mul-sum : tie.Need-mul-sum Inv-loop μ-loop
+mul-sum c = omega (arith, c .before .before .before .before .before .before .pre .1, c .before .before .before .before .before .before .fits)
+
+shared-slice-read-sum : tie.Need-shared-slice-read-sum Inv-loop μ-loop
+shared-slice-read-sum c = omega (arith, c .before .before .before .before .before .before .before .pre .1)
+
+add-sum-2 : tie.Need-add-sum-2 Inv-loop μ-loop
+add-sum-2 c = omega (arith, c .before .lesser .ensures, c .before .before .before .before .before .before .before .pre .2 (c .before .before .before .before .loop .u) (c .before .before .before .loop-test .taken))
 
 nearer-requires : tie.Need-nearer-requires Inv-loop μ-loop
-nearer-requires c κs = (omega (arith, c .before .before .before .before .before .loop .inv .1 .small), omega (arith, c .before .before .lesser .ensures, c .lesser2 .ensures))
+nearer-requires c κs = (omega (arith, c .before .before .before .before .loop .inv .1 .small), omega (arith, c .before .lesser .ensures, c .before .before .before .before .before .before .before .pre .2 (c .before .before .before .before .loop .u) (c .before .before .before .loop-test .taken)))
 
 add-u : tie.Need-add-u Inv-loop μ-loop
 add-u c = omega arith
@@ -54,13 +51,12 @@ loop-less : tie.Need-loop-less Inv-loop μ-loop
 loop-less c = omega arith
 
 loop-again : tie.Need-loop-again Inv-loop μ-loop
-loop-again c = (omega arith, sum-more (c .before .before .before .before .before .before .loop .inv .1) (omega (arith, c .nearer .ensures, c .before .before .before .lesser .ensures, c .before .lesser2 .ensures)))
+loop-again c = (omega arith, sum-more (c .before .before .before .before .before .loop .inv .1) (omega (arith, c .nearer .ensures, c .before .before .lesser .ensures)))
 
 returns : tie.Need-returns Inv-loop μ-loop
 returns c =
     let all : c .before .loop .u ≡ c .before .before .before .before .args .tasks = omega arith in
-    let args = c .before .before .before .before .args in
-    subst (λ (k : ℕ). LeastSum (args .table .now) (args .from) (args .last .now) (args .to) k (c .before .loop .least)) all (c .before .loop .inv .1)
+    subst (λ (k : ℕ). LeastSum (c .before .before .before .before .args .table .now) (c .before .before .before .before .args .from) (c .before .before .before .before .args .last .now) (c .before .before .before .before .args .to) k (c .before .loop .least)) all (c .before .loop .inv .1)
 
 pub least-sum-spec : {M : Type 1} → statement M
 least-sum-spec =
@@ -73,11 +69,10 @@ least-sum-spec =
     mul-lesser
     shared-slice-read-lesser
     lesser-requires
-    add-lesser-2
-    mul-lesser-2
-    shared-slice-read-lesser-2
-    lesser-requires-2
     add-sum
+    mul-sum
+    shared-slice-read-sum
+    add-sum-2
     nearer-requires
     add-u
     loop-less

@@ -6,7 +6,7 @@ use native.Mathlib.Omega.{arith}
 use borrow.Author.Needs.{needs}
 use lib.ListN.{length, getD}
 use Rattle.model.specs.Lists.{counted}
-use Rattle.redundancy.proofs.Rule.{places, marked-by-path, marked-by-sum, not-marked}
+use Rattle.redundancy.proofs.Rule.{places, small, marked-by-path, marked-by-sum, not-marked}
 use Rattle.redundancy.proofs.mark.Statement.{statement}
 use Rattle.redundancy.proofs.mark.Tie as tie
 
@@ -14,9 +14,9 @@ use Rattle.redundancy.proofs.mark.Tie as tie
 at : (c : tie.Start) →
     (getD (c .args .source .now) (c .args .own) 0 * c .args .tasks + getD (c .args .sink .now) (c .args .own) 0 < length (c .args .table .now))
     × (getD (c .args .source .now) (c .args .own) 0 * c .args .tasks + c .args .tasks ≤ length (c .args .table .now))
-    × (getD (c .args .sink .now) (c .args .own) 0 * c .args .tasks + c .args .tasks ≤ length (c .args .last .now))
+    × (getD (c .args .sink .now) (c .args .own) 0 * 64 + c .args .tasks ≤ length (c .args .last .now))
     × (length (c .args .table .now) ≤ 4096)
-    × (getD (c .args .sink .now) (c .args .own) 0 * c .args .tasks < 4096)
+    × (getD (c .args .sink .now) (c .args .own) 0 < 64)
 at c = places (c .pre .1) (c .args .own) (c .pre .0)
 
 shared-slice-read-from : tie.Need-shared-slice-read-from
@@ -59,7 +59,9 @@ mul-least-sum : tie.Need-mul-least-sum
 mul-least-sum c = omega (arith, at (c .before .before .before .before .before .before .before .before .before .before))
 
 least-sum-requires : tie.Need-least-sum-requires
-least-sum-requires c κs = (at (c .before .before .before .before .before .before .before .before .before .before) .1, at (c .before .before .before .before .before .before .before .before .before .before) .2)
+least-sum-requires c κs =
+    let start = c .before .before .before .before .before .before .before .before .before .before in
+    (at start .1, at start .2, small (start .pre .1) (start .args .own) (start .pre .0))
 
 returns-2 : tie.Need-returns-2
 unfolding counted

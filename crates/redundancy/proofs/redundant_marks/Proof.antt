@@ -3,6 +3,7 @@ use mathlib.Core.Path.{refl, sym, _∙_}
 use mathlib.Core.List.{[], _∷_}
 use native.Mathlib.Omega.{arith}
 use borrow.Author.Needs.{needs}
+use Rattle.delays.proofs.Steps.{fit-wide}
 use Rattle.marks.specs.Marks.{wordOf, marksOf}
 use Rattle.redundancy.specs.Redundancy.{Tabled}
 use Rattle.redundancy.proofs.Rule.{fit-turned}
@@ -15,7 +16,7 @@ start c = c .before .before .before .before .before .before
 -- with the last steps taken into the square
 tabled : (c : tie.After-take-steps) →
     Tabled (start c .args .tasks) (start c .args .source .now) (start c .args .sink .now) (start c .args .delay .now) (start c .args .table .now)
-    (c .take-steps .last .1 .1 .1 .1 .0)
+    (c .take-steps .last .1 .1 .1 .0)
 tabled c =
     let asked = start c .pre in
     record {
@@ -24,8 +25,7 @@ tabled c =
       few = asked .1 .0 .0;
       fit = asked .1 .1 .0;
       least = asked .1 .1 .1;
-      room = c .take-steps .ensures .0;
-      steps = c .take-steps .ensures .1;
+      steps = c .take-steps .ensures;
     }
 
 slice-aggregate-take-steps : tie.Need-slice-aggregate-take-steps
@@ -36,7 +36,7 @@ take-steps-requires c κs =
     let from = c .before .before .before .before .before in
     let sinks = from .pre .0 .0 in (
       (sym sinks, from .pre .0 .1 ∙ sym sinks),
-      ((from .pre .1 .0 .0, refl), fit-turned (from .args .source .now) (from .args .sink .now) (from .args .delay .now) sinks (from .pre .1 .1 .0)),
+      (fit-wide (from .pre .1 .0 .0) (fit-turned (from .args .source .now) (from .args .sink .now) (from .args .delay .now) sinks (from .pre .1 .1 .0)), refl),
     )
 
 slice-aggregate-mark-word : tie.Need-slice-aggregate-mark-word

@@ -31,7 +31,7 @@ slice-aggregate-copy-row : tie.Need-slice-aggregate-copy-row Inv-loop μ-loop
 slice-aggregate-copy-row c = refl
 
 copy-row-requires : tie.Need-copy-row-requires Inv-loop μ-loop
-copy-row-requires c κs = (omega (arith, c .before .before .before .pre), omega (arith, c .before .before .before .pre), refl)
+copy-row-requires c κs = (omega (arith, c .before .before .before .pre), refl)
 
 loop-holds : tie.Need-loop-holds Inv-loop μ-loop
 loop-holds c = (omega arith, joined-none (c .before .before .before .before .before .args .near) (c .before .before .before .before .before .args .far) (c .before .before .before .before .before .pre .4))
@@ -56,7 +56,7 @@ unfolding at
 lower-row-requires c κs =
     let joined = c .before .before .before .before .before .loop .inv .1 .joined in
     let copied = c .before .before .before .before .before .before .before .copy-row .ensures in (
-      (joined .small (c .before .before .before .before .before .loop .x * 64 + c .before .before .before .before .before .before .before .before .before .before .before .args .near), copied .size, λ y l. copied-small (c .before .before .before .before .before .before .before .before .before .before .before .args .rows .now) (c .before .before .before .before .before .before .before .before .before .before .before .args .far * 64) copied (c .before .before .before .before .before .before .before .before .before .before .before .pre .4) y),
+      (joined .small (c .before .before .before .before .before .loop .x * 64 + c .before .before .before .before .before .before .before .before .before .before .before .args .near), copied .size, λ y l. copied-small copied (c .before .before .before .before .before .before .before .before .before .before .before .pre .4) y),
       (row-inside (c .before .before .before .before), omega (arith, few (c .before .before .before .before)), λ y l. joined .small (c .before .before .before .before .before .loop .x * 64 + y)),
     )
 

@@ -48,7 +48,7 @@ lower-row-requires c κs =
     let rows = c .before .before .before .before .before .before .before .before .before .args .rows .now in
     let copied = c .before .before .before .before .before .copy-row .ensures in (
       (pre .6 (c .before .before .before .before .before .before .before .before .before .args .x * 64 + c .before .before .before .before .before .before .before .before .before .args .near), row-size (c .before .before .before .before .before .before .before .before .before .args .far) rows (pre .4), λ y l. row-small (c .before .before .before .before .before .before .before .before .before .args .far) rows (pre .4) (pre .6) y),
-      (omega (arith, copied .size), omega arith, λ y l. copied-small rows (c .before .before .before .before .before .before .before .before .before .args .x * 64) copied (pre .6) (0 + y)),
+      (omega (arith, copied .size), omega arith, λ y l. copied-small copied (pre .6) (0 + y)),
     )
 
 same-length : tie.Need-same-length

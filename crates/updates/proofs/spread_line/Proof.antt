@@ -10,7 +10,7 @@ use borrow.Author.Needs.{needs}
 use lib.ListN.{length, getD}
 use Rattle.records.specs.Columns.{at}
 use Rattle.records.proofs.Rows.{product-small}
-use Rattle.sweeps.proofs.Parts.{PartDone, part-none, part-more}
+use Rattle.delays.proofs.Parts.{PartDone, part-none, part-more}
 use Rattle.updates.proofs.spread_line.Statement.{statement}
 use Rattle.updates.proofs.spread_line.Tie as tie
 

@@ -10,7 +10,7 @@ use Rattle.model.specs.Tasks.{Edge}
 use Rattle.model.specs.Compute.{present, leastDelay}
 use Rattle.records.specs.Columns.{at}
 use Rattle.reach.specs.Reach.{bit, ReachesOn}
-use Rattle.verdicts.specs.Tables.{nowhere, somewhere}
+use Rattle.verdicts.specs.Searches.{nowhere, somewhere}
 use Rattle.verdicts.proofs.cyclic_place.Statement.{statement}
 use Rattle.verdicts.proofs.cyclic_place.Tie as tie
 

@@ -1,9 +1,7 @@
 -- `verdicts::judge` meets its contract: what the paths of the result and its delays show of each edge, and the result's latency, are the judgement.
-use mathlib.Core.Path.{_≡_, refl, _∙_}
-use Prim.Native.Nat.{_-_}
+use mathlib.Core.Path.{refl, _∙_}
 use native.Mathlib.Omega.{arith}
-use lib.ListN.{length, length-take}
-use Rattle.verdicts.proofs.Judging.{graph-fronts, proposed-fronts, graph-within, few-tasks, few-proposed, as-many-edges, few-edges, original-fit, processors-within, processors-small, graph-circled, fit-by-processors, made-by-processors, proposed-ends, result-sinks, result-delays, result-joins, result-reached, result-circled, all-among, held-fit, result-within, result-ends, times-filed, output-there, few-times, cycle-found, no-cycle-found, lost-in-result, late-is, result-acyclic, judged-13, judged-14, lost-not-13, judged-15, judged-0}
+use Rattle.verdicts.proofs.Judging.{graph-fronts, proposed-fronts, graph-within, few-tasks, few-proposed, as-many-edges, few-edges, original-fit, processors-within, processors-small, graph-circled, fit-by-processors, made-by-processors, proposed-ends, result-sinks, result-delays, result-joins, result-reached, result-circled, held-fit, result-within, result-ends, times-filed, output-there, few-times, cycle-found, no-cycle-found, lost-in-result, late-is, result-acyclic, judged-13, judged-14, lost-not-13, judged-15, judged-0}
 use borrow.Author.Needs.{needs}
 use Rattle.verdicts.proofs.judge.Statement.{statement}
 use Rattle.verdicts.proofs.judge.Tie as tie
@@ -204,66 +202,6 @@ returns c =
       λ g proposed given thirteen. cycle-found given (found _ (result-reached given (made-by-processors given made-on) (reached _ (result-circled given (made-by-processors given made-on))))) (c .if1 .taken) .1,
     )
 
-sub-latency : tie.Need-sub-latency
-sub-latency c = search needs
-
-part-latency-start : tie.Need-part-latency-start
-part-latency-start c = search needs
-
-part-latency-end : tie.Need-part-latency-end
-part-latency-end c =
-    result-within (c .before .before .before .before .before .before .before .before .before .before .before .before .before .before .before .before .before .before .before .before .before .before .before .before .before .before .before .before .before .before .before .before .before .before .before .before .before .before .before .pre .2) (made-by-processors (c .before .before .before .before .before .before .before .before .before .before .before .before .before .before .before .before .before .before .before .before .before .before .before .before .before .before .before .before .before .before .before .before .before .before .before .before .before .before .before .pre .2) (c .before .before .before .before .before .before .before .before .before .before .before .before .before .before .before .before .before .result-edges-into .ensures)) .0
-
-sub-latency-2 : tie.Need-sub-latency-2
-sub-latency-2 c = search needs
-
-part-latency-start-2 : tie.Need-part-latency-start-2
-part-latency-start-2 c = search needs
-
-part-latency-end-2 : tie.Need-part-latency-end-2
-part-latency-end-2 c =
-    result-within (c .before .before .before .before .before .before .before .before .before .before .before .before .before .before .before .before .before .before .before .before .before .before .before .before .before .before .before .before .before .before .before .before .before .before .before .before .before .before .before .before .before .pre .2) (made-by-processors (c .before .before .before .before .before .before .before .before .before .before .before .before .before .before .before .before .before .before .before .before .before .before .before .before .before .before .before .before .before .before .before .before .before .before .before .before .before .before .before .before .before .pre .2) (c .before .before .before .before .before .before .before .before .before .before .before .before .before .before .before .before .before .before .before .result-edges-into .ensures)) .1
-
-sub-latency-3 : tie.Need-sub-latency-3
-sub-latency-3 c = search needs
-
-part-latency-start-3 : tie.Need-part-latency-start-3
-part-latency-start-3 c = search needs
-
-part-latency-end-3 : tie.Need-part-latency-end-3
-part-latency-end-3 c =
-    result-within (c .before .before .before .before .before .before .before .before .before .before .before .before .before .before .before .before .before .before .before .before .before .before .before .before .before .before .before .before .before .before .before .before .before .before .before .before .before .before .before .before .before .before .before .pre .2) (made-by-processors (c .before .before .before .before .before .before .before .before .before .before .before .before .before .before .before .before .before .before .before .before .before .before .before .before .before .before .before .before .before .before .before .before .before .before .before .before .before .before .before .before .before .before .before .pre .2) (c .before .before .before .before .before .before .before .before .before .before .before .before .before .before .before .before .before .before .before .before .before .result-edges-into .ensures)) .2
-
-sub-latency-4 : tie.Need-sub-latency-4
-sub-latency-4 c = search needs
-
-part-latency-start-4 : tie.Need-part-latency-start-4
-part-latency-start-4 c = search needs
-
-part-latency-end-4 : tie.Need-part-latency-end-4
-part-latency-end-4 c =
-    graph-within (c .before .before .before .before .before .before .before .before .before .before .before .before .before .before .before .before .before .before .before .before .before .before .before .before .before .before .before .before .before .before .before .before .before .before .before .before .before .before .before .before .before .before .before .before .pre .2) .time
-
-cast-latency : tie.Need-cast-latency
-cast-latency c =
-    let given = c .before .before .before .before .before .before .before .before .before .before .before .before .before .before .before .before .before .before .before .before .before .before .before .before .before .before .before .before .before .before .before .before .before .before .before .before .before .before .before .before .before .before .before .before .before .before .pre .2 in
-    omega (arith, output-there given, few-times given)
-
-slice-aggregate-latency : tie.Need-slice-aggregate-latency
-slice-aggregate-latency c = search needs
-
-latency-requires : tie.Need-latency-requires
-latency-requires c κs =
-    let given = c .before .before .before .before .before .before .before .before .before .before .before .before .before .before .before .before .before .before .before .before .before .before .before .before .before .before .before .before .before .before .before .before .before .before .before .before .before .before .before .before .before .before .before .before .before .before .before .pre .2 in
-    let made-on = c .before .before .before .before .before .before .before .before .before .before .before .before .before .before .before .before .before .before .before .before .before .before .before .before .before .result-edges-into .ensures in
-    let reached = c .before .before .before .before .before .before .before .before .before .before .before .before .before .before .before .before .paths-between-processors .ensures in
-    let found = c .before .before .before .before .before .before .before .before .before .before .cyclic-place .ensures in
-    let made = (made-by-processors given made-on) in
-    let none = (no-cycle-found given (found _ (result-reached given (made-by-processors given made-on) (reached _ (result-circled given (made-by-processors given made-on))))) (c .before .before .before .before .before .before .before .before .before .if1 .left)) in (
-      (result-sinks given made, result-delays given made),
-      ((few-times given, output-there given, refl), (result-ends given made, (result-acyclic given made none, times-filed given))),
-    )
-
 sub-lost-order : tie.Need-sub-lost-order
 sub-lost-order c = search needs
 
@@ -272,7 +210,7 @@ part-lost-order-start c = search needs
 
 part-lost-order-end : tie.Need-part-lost-order-end
 part-lost-order-end c =
-    graph-within (c .before .before .before .before .before .before .before .before .before .before .before .before .before .before .before .before .before .before .before .before .before .before .before .before .before .before .before .before .before .before .before .before .before .before .before .before .before .before .before .before .before .before .before .before .before .before .before .before .before .pre .2) .source
+    graph-within (c .before .before .before .before .before .before .before .before .before .before .before .before .before .before .before .before .before .before .before .before .before .before .before .before .before .before .before .before .before .before .before .before .before .before .before .before .before .before .pre .2) .source
 
 sub-lost-order-2 : tie.Need-sub-lost-order-2
 sub-lost-order-2 c = search needs
@@ -282,7 +220,7 @@ part-lost-order-start-2 c = search needs
 
 part-lost-order-end-2 : tie.Need-part-lost-order-end-2
 part-lost-order-end-2 c =
-    graph-within (c .before .before .before .before .before .before .before .before .before .before .before .before .before .before .before .before .before .before .before .before .before .before .before .before .before .before .before .before .before .before .before .before .before .before .before .before .before .before .before .before .before .before .before .before .before .before .before .before .before .before .pre .2) .sink
+    graph-within (c .before .before .before .before .before .before .before .before .before .before .before .before .before .before .before .before .before .before .before .before .before .before .before .before .before .before .before .before .before .before .before .before .before .before .before .before .before .before .before .pre .2) .sink
 
 sub-lost-order-3 : tie.Need-sub-lost-order-3
 sub-lost-order-3 c = search needs
@@ -292,7 +230,7 @@ part-lost-order-start-3 c = search needs
 
 part-lost-order-end-3 : tie.Need-part-lost-order-end-3
 part-lost-order-end-3 c =
-    graph-within (c .before .before .before .before .before .before .before .before .before .before .before .before .before .before .before .before .before .before .before .before .before .before .before .before .before .before .before .before .before .before .before .before .before .before .before .before .before .before .before .before .before .before .before .before .before .before .before .before .before .before .before .pre .2) .delay
+    graph-within (c .before .before .before .before .before .before .before .before .before .before .before .before .before .before .before .before .before .before .before .before .before .before .before .before .before .before .before .before .before .before .before .before .before .before .before .before .before .before .before .before .pre .2) .delay
 
 sub-lost-order-4 : tie.Need-sub-lost-order-4
 sub-lost-order-4 c = search needs
@@ -302,7 +240,7 @@ part-lost-order-start-4 c = search needs
 
 part-lost-order-end-4 : tie.Need-part-lost-order-end-4
 part-lost-order-end-4 c =
-    result-within (c .before .before .before .before .before .before .before .before .before .before .before .before .before .before .before .before .before .before .before .before .before .before .before .before .before .before .before .before .before .before .before .before .before .before .before .before .before .before .before .before .before .before .before .before .before .before .before .before .before .before .before .before .before .pre .2) (made-by-processors (c .before .before .before .before .before .before .before .before .before .before .before .before .before .before .before .before .before .before .before .before .before .before .before .before .before .before .before .before .before .before .before .before .before .before .before .before .before .before .before .before .before .before .before .before .before .before .before .before .before .before .before .before .before .pre .2) (c .before .before .before .before .before .before .before .before .before .before .before .before .before .before .before .before .before .before .before .before .before .before .before .before .before .before .before .before .before .before .before .result-edges-into .ensures)) .0
+    result-within (c .before .before .before .before .before .before .before .before .before .before .before .before .before .before .before .before .before .before .before .before .before .before .before .before .before .before .before .before .before .before .before .before .before .before .before .before .before .before .before .before .before .before .pre .2) (made-by-processors (c .before .before .before .before .before .before .before .before .before .before .before .before .before .before .before .before .before .before .before .before .before .before .before .before .before .before .before .before .before .before .before .before .before .before .before .before .before .before .before .before .before .before .pre .2) (c .before .before .before .before .before .before .before .before .before .before .before .before .before .before .before .before .before .before .before .before .result-edges-into .ensures)) .0
 
 sub-lost-order-5 : tie.Need-sub-lost-order-5
 sub-lost-order-5 c = search needs
@@ -312,7 +250,7 @@ part-lost-order-start-5 c = search needs
 
 part-lost-order-end-5 : tie.Need-part-lost-order-end-5
 part-lost-order-end-5 c =
-    result-within (c .before .before .before .before .before .before .before .before .before .before .before .before .before .before .before .before .before .before .before .before .before .before .before .before .before .before .before .before .before .before .before .before .before .before .before .before .before .before .before .before .before .before .before .before .before .before .before .before .before .before .before .before .before .before .before .pre .2) (made-by-processors (c .before .before .before .before .before .before .before .before .before .before .before .before .before .before .before .before .before .before .before .before .before .before .before .before .before .before .before .before .before .before .before .before .before .before .before .before .before .before .before .before .before .before .before .before .before .before .before .before .before .before .before .before .before .before .before .pre .2) (c .before .before .before .before .before .before .before .before .before .before .before .before .before .before .before .before .before .before .before .before .before .before .before .before .before .before .before .before .before .before .before .before .before .result-edges-into .ensures)) .1
+    result-within (c .before .before .before .before .before .before .before .before .before .before .before .before .before .before .before .before .before .before .before .before .before .before .before .before .before .before .before .before .before .before .before .before .before .before .before .before .before .before .before .before .before .before .before .before .pre .2) (made-by-processors (c .before .before .before .before .before .before .before .before .before .before .before .before .before .before .before .before .before .before .before .before .before .before .before .before .before .before .before .before .before .before .before .before .before .before .before .before .before .before .before .before .before .before .before .before .pre .2) (c .before .before .before .before .before .before .before .before .before .before .before .before .before .before .before .before .before .before .before .before .before .before .result-edges-into .ensures)) .1
 
 sub-lost-order-6 : tie.Need-sub-lost-order-6
 sub-lost-order-6 c = search needs
@@ -322,64 +260,109 @@ part-lost-order-start-6 c = search needs
 
 part-lost-order-end-6 : tie.Need-part-lost-order-end-6
 part-lost-order-end-6 c =
-    result-within (c .before .before .before .before .before .before .before .before .before .before .before .before .before .before .before .before .before .before .before .before .before .before .before .before .before .before .before .before .before .before .before .before .before .before .before .before .before .before .before .before .before .before .before .before .before .before .before .before .before .before .before .before .before .before .before .before .before .pre .2) (made-by-processors (c .before .before .before .before .before .before .before .before .before .before .before .before .before .before .before .before .before .before .before .before .before .before .before .before .before .before .before .before .before .before .before .before .before .before .before .before .before .before .before .before .before .before .before .before .before .before .before .before .before .before .before .before .before .before .before .before .before .pre .2) (c .before .before .before .before .before .before .before .before .before .before .before .before .before .before .before .before .before .before .before .before .before .before .before .before .before .before .before .before .before .before .before .before .before .before .before .result-edges-into .ensures)) .2
-
-sub-lost-order-7 : tie.Need-sub-lost-order-7
-sub-lost-order-7 c = search needs
-
-part-lost-order-start-7 : tie.Need-part-lost-order-start-7
-part-lost-order-start-7 c = search needs
-
-part-lost-order-end-7 : tie.Need-part-lost-order-end-7
-part-lost-order-end-7 c =
-    let long : length (c .before .before .before .before .before .before .before .before .before .before .before .latency .last .1 .1 .1 .1 .1 .0) ≡ 64 = c .before .before .before .before .before .before .before .before .before .before .before .latency .kept .1 .1 .1 .1 .1 .0 in
-    omega (arith, long, few-tasks (c .before .before .before .before .before .before .before .before .before .before .before .before .before .before .before .before .before .before .before .before .before .before .before .before .before .before .before .before .before .before .before .before .before .before .before .before .before .before .before .before .before .before .before .before .before .before .before .before .before .before .before .before .before .before .before .before .before .before .before .pre .2))
+    result-within (c .before .before .before .before .before .before .before .before .before .before .before .before .before .before .before .before .before .before .before .before .before .before .before .before .before .before .before .before .before .before .before .before .before .before .before .before .before .before .before .before .before .before .before .before .before .before .pre .2) (made-by-processors (c .before .before .before .before .before .before .before .before .before .before .before .before .before .before .before .before .before .before .before .before .before .before .before .before .before .before .before .before .before .before .before .before .before .before .before .before .before .before .before .before .before .before .before .before .before .before .pre .2) (c .before .before .before .before .before .before .before .before .before .before .before .before .before .before .before .before .before .before .before .before .before .before .before .before .result-edges-into .ensures)) .2
 
 lost-order-requires : tie.Need-lost-order-requires
 lost-order-requires c κs =
-    let long : length (c .before .before .before .before .before .before .before .before .before .before .before .before .latency .last .1 .1 .1 .1 .1 .0) ≡ 64 = c .before .before .before .before .before .before .before .before .before .before .before .before .latency .kept .1 .1 .1 .1 .1 .0 in
-    let given = c .before .before .before .before .before .before .before .before .before .before .before .before .before .before .before .before .before .before .before .before .before .before .before .before .before .before .before .before .before .before .before .before .before .before .before .before .before .before .before .before .before .before .before .before .before .before .before .before .before .before .before .before .before .before .before .before .before .before .before .before .pre .2 in
-    let made = (made-by-processors (c .before .before .before .before .before .before .before .before .before .before .before .before .before .before .before .before .before .before .before .before .before .before .before .before .before .before .before .before .before .before .before .before .before .before .before .before .before .before .before .before .before .before .before .before .before .before .before .before .before .before .before .before .before .before .before .before .before .before .before .before .pre .2) (c .before .before .before .before .before .before .before .before .before .before .before .before .before .before .before .before .before .before .before .before .before .before .before .before .before .before .before .before .before .before .before .before .before .before .before .before .before .before .result-edges-into .ensures)) in
+    let given = c .before .before .before .before .before .before .before .before .before .before .before .before .before .before .before .before .before .before .before .before .before .before .before .before .before .before .before .before .before .before .before .before .before .before .before .before .before .before .before .before .before .before .before .before .before .before .before .pre .2 in
+    let made = (made-by-processors (c .before .before .before .before .before .before .before .before .before .before .before .before .before .before .before .before .before .before .before .before .before .before .before .before .before .before .before .before .before .before .before .before .before .before .before .before .before .before .before .before .before .before .before .before .before .before .before .pre .2) (c .before .before .before .before .before .before .before .before .before .before .before .before .before .before .before .before .before .before .before .before .before .before .before .before .before .result-edges-into .ensures)) in
     let held = graph-fronts given in (
       (held .as-many-sinks, held .as-many-delays),
       (
         (result-sinks given made, result-delays given made),
         (
-          (omega (arith, as-many-edges given), omega (arith, as-many-edges given, few-edges given), few-tasks given, few-proposed given, omega (arith, long, length-take (c .before .before .before .before .before .before .before .before .before .before .before .before .before .before .before .before .before .before .before .before .before .before .before .before .before .before .before .before .before .before .before .before .before .before .before .before .before .before .before .before .before .before .before .before .before .before .before .before .before .before .before .before .before .before .before .before .before .before .before .before .args .graph .tasks - 0) (c .before .before .before .before .before .before .before .before .before .before .before .before .latency .last .1 .1 .1 .1 .1 .0))),
-          (all-among given made, (original-fit given, held-fit given made)),
+          (omega (arith, as-many-edges given), omega (arith, as-many-edges given, few-edges given), few-tasks given),
+          (original-fit given, held-fit given made),
         ),
       ),
     )
 
 returns-2 : tie.Need-returns-2
 returns-2 c =
-    let made-on = c .before .before .before .before .before .before .before .before .before .before .before .before .before .before .before .before .before .before .before .before .before .before .before .before .before .before .before .before .before .before .before .before .before .before .before .before .before .before .before .before .before .result-edges-into .ensures in
-    let reached = c .before .before .before .before .before .before .before .before .before .before .before .before .before .before .before .before .before .before .before .before .before .before .before .before .before .before .before .before .before .before .before .before .paths-between-processors .ensures in
-    let found = c .before .before .before .before .before .before .before .before .before .before .before .before .before .before .before .before .before .before .before .before .before .before .before .before .before .before .cyclic-place .ensures in
+    let made-on = c .before .before .before .before .before .before .before .before .before .before .before .before .before .before .before .before .before .before .before .before .before .before .before .before .before .before .before .before .result-edges-into .ensures in
+    let reached = c .before .before .before .before .before .before .before .before .before .before .before .before .before .before .before .before .before .before .before .paths-between-processors .ensures in
+    let found = c .before .before .before .before .before .before .before .before .before .before .before .before .before .cyclic-place .ensures in
     let lost = c .before .before .lost-order .ensures in (
-      λ g proposed given. judged-14 given (no-cycle-found given (found _ (result-reached given (made-by-processors given made-on) (reached _ (result-circled given (made-by-processors given made-on))))) (c .before .before .before .before .before .before .before .before .before .before .before .before .before .before .before .before .before .before .before .before .before .before .before .before .before .if1 .left)) (lost-in-result given (made-by-processors given made-on) lost) (c .if2 .taken),
+      λ g proposed given. judged-14 given (no-cycle-found given (found _ (result-reached given (made-by-processors given made-on) (reached _ (result-circled given (made-by-processors given made-on))))) (c .before .before .before .before .before .before .before .before .before .before .before .before .if1 .left)) (lost-in-result given (made-by-processors given made-on) lost) (c .if2 .taken),
       λ g proposed given thirteen. absurd (lost-not-13 given (lost-in-result given (made-by-processors given made-on) lost) thirteen),
+    )
+
+sub-latency : tie.Need-sub-latency
+sub-latency c = search needs
+
+part-latency-start : tie.Need-part-latency-start
+part-latency-start c = search needs
+
+part-latency-end : tie.Need-part-latency-end
+part-latency-end c =
+    result-within (c .before .before .before .before .before .before .before .before .before .before .before .before .before .before .before .before .before .before .before .before .before .before .before .before .before .before .before .before .before .before .before .before .before .before .before .before .before .before .before .before .before .before .before .before .before .before .before .before .before .before .before .pre .2) (made-by-processors (c .before .before .before .before .before .before .before .before .before .before .before .before .before .before .before .before .before .before .before .before .before .before .before .before .before .before .before .before .before .before .before .before .before .before .before .before .before .before .before .before .before .before .before .before .before .before .before .before .before .before .before .pre .2) (c .before .before .before .before .before .before .before .before .before .before .before .before .before .before .before .before .before .before .before .before .before .before .before .before .before .before .before .before .before .result-edges-into .ensures)) .0
+
+sub-latency-2 : tie.Need-sub-latency-2
+sub-latency-2 c = search needs
+
+part-latency-start-2 : tie.Need-part-latency-start-2
+part-latency-start-2 c = search needs
+
+part-latency-end-2 : tie.Need-part-latency-end-2
+part-latency-end-2 c =
+    result-within (c .before .before .before .before .before .before .before .before .before .before .before .before .before .before .before .before .before .before .before .before .before .before .before .before .before .before .before .before .before .before .before .before .before .before .before .before .before .before .before .before .before .before .before .before .before .before .before .before .before .before .before .before .before .pre .2) (made-by-processors (c .before .before .before .before .before .before .before .before .before .before .before .before .before .before .before .before .before .before .before .before .before .before .before .before .before .before .before .before .before .before .before .before .before .before .before .before .before .before .before .before .before .before .before .before .before .before .before .before .before .before .before .before .before .pre .2) (c .before .before .before .before .before .before .before .before .before .before .before .before .before .before .before .before .before .before .before .before .before .before .before .before .before .before .before .before .before .before .before .result-edges-into .ensures)) .1
+
+sub-latency-3 : tie.Need-sub-latency-3
+sub-latency-3 c = search needs
+
+part-latency-start-3 : tie.Need-part-latency-start-3
+part-latency-start-3 c = search needs
+
+part-latency-end-3 : tie.Need-part-latency-end-3
+part-latency-end-3 c =
+    result-within (c .before .before .before .before .before .before .before .before .before .before .before .before .before .before .before .before .before .before .before .before .before .before .before .before .before .before .before .before .before .before .before .before .before .before .before .before .before .before .before .before .before .before .before .before .before .before .before .before .before .before .before .before .before .before .before .pre .2) (made-by-processors (c .before .before .before .before .before .before .before .before .before .before .before .before .before .before .before .before .before .before .before .before .before .before .before .before .before .before .before .before .before .before .before .before .before .before .before .before .before .before .before .before .before .before .before .before .before .before .before .before .before .before .before .before .before .before .before .pre .2) (c .before .before .before .before .before .before .before .before .before .before .before .before .before .before .before .before .before .before .before .before .before .before .before .before .before .before .before .before .before .before .before .before .before .result-edges-into .ensures)) .2
+
+sub-latency-4 : tie.Need-sub-latency-4
+sub-latency-4 c = search needs
+
+part-latency-start-4 : tie.Need-part-latency-start-4
+part-latency-start-4 c = search needs
+
+part-latency-end-4 : tie.Need-part-latency-end-4
+part-latency-end-4 c =
+    graph-within (c .before .before .before .before .before .before .before .before .before .before .before .before .before .before .before .before .before .before .before .before .before .before .before .before .before .before .before .before .before .before .before .before .before .before .before .before .before .before .before .before .before .before .before .before .before .before .before .before .before .before .before .before .before .before .before .before .pre .2) .time
+
+cast-latency : tie.Need-cast-latency
+cast-latency c =
+    let given = c .before .before .before .before .before .before .before .before .before .before .before .before .before .before .before .before .before .before .before .before .before .before .before .before .before .before .before .before .before .before .before .before .before .before .before .before .before .before .before .before .before .before .before .before .before .before .before .before .before .before .before .before .before .before .before .before .before .before .pre .2 in
+    omega (arith, output-there given, few-times given)
+
+latency-requires : tie.Need-latency-requires
+latency-requires c κs =
+    let given = c .before .before .before .before .before .before .before .before .before .before .before .before .before .before .before .before .before .before .before .before .before .before .before .before .before .before .before .before .before .before .before .before .before .before .before .before .before .before .before .before .before .before .before .before .before .before .before .before .before .before .before .before .before .before .before .before .before .before .pre .2 in
+    let made-on = c .before .before .before .before .before .before .before .before .before .before .before .before .before .before .before .before .before .before .before .before .before .before .before .before .before .before .before .before .before .before .before .before .before .before .before .before .result-edges-into .ensures in
+    let reached = c .before .before .before .before .before .before .before .before .before .before .before .before .before .before .before .before .before .before .before .before .before .before .before .before .before .before .before .paths-between-processors .ensures in
+    let found = c .before .before .before .before .before .before .before .before .before .before .before .before .before .before .before .before .before .before .before .before .before .cyclic-place .ensures in
+    let made = (made-by-processors given made-on) in
+    let none = (no-cycle-found given (found _ (result-reached given (made-by-processors given made-on) (reached _ (result-circled given (made-by-processors given made-on))))) (c .before .before .before .before .before .before .before .before .before .before .before .before .before .before .before .before .before .before .before .before .if1 .left)) in (
+      (result-sinks given made, result-delays given made),
+      ((few-times given, output-there given), (result-ends given made, (result-acyclic given made none, times-filed given))),
     )
 
 returns-3 : tie.Need-returns-3
 returns-3 c =
-    let made-on = c .before .before .before .before .before .before .before .before .before .before .before .before .before .before .before .before .before .before .before .before .before .before .before .before .before .before .before .before .before .before .before .before .before .before .before .before .before .before .before .before .before .before .before .result-edges-into .ensures in
-    let reached = c .before .before .before .before .before .before .before .before .before .before .before .before .before .before .before .before .before .before .before .before .before .before .before .before .before .before .before .before .before .before .before .before .before .before .paths-between-processors .ensures in
-    let found = c .before .before .before .before .before .before .before .before .before .before .before .before .before .before .before .before .before .before .before .before .before .before .before .before .before .before .before .before .cyclic-place .ensures in
-    let lost = c .before .before .before .before .lost-order .ensures in (
+    let made-on = c .before .before .before .before .before .before .before .before .before .before .before .before .before .before .before .before .before .before .before .before .before .before .before .before .before .before .before .before .before .before .before .before .before .before .before .before .before .before .before .result-edges-into .ensures in
+    let reached = c .before .before .before .before .before .before .before .before .before .before .before .before .before .before .before .before .before .before .before .before .before .before .before .before .before .before .before .before .before .before .paths-between-processors .ensures in
+    let found = c .before .before .before .before .before .before .before .before .before .before .before .before .before .before .before .before .before .before .before .before .before .before .before .before .cyclic-place .ensures in
+    let lost = c .before .before .before .before .before .before .before .before .before .before .before .before .before .lost-order .ensures in (
       λ g proposed given.
-          judged-15 given (no-cycle-found given (found _ (result-reached given (made-by-processors given made-on) (reached _ (result-circled given (made-by-processors given made-on))))) (c .before .before .before .before .before .before .before .before .before .before .before .before .before .before .before .before .before .before .before .before .before .before .before .before .before .before .before .if1 .left)) (lost-in-result given (made-by-processors given made-on) lost) (c .before .before .if2 .left) _ (c .before .before .before .before .before .before .before .before .before .before .before .before .before .before .before .before .before .latency .ensures ∙ late-is given (made-by-processors given made-on)) (c .if3 .taken),
+          judged-15 given (no-cycle-found given (found _ (result-reached given (made-by-processors given made-on) (reached _ (result-circled given (made-by-processors given made-on))))) (c .before .before .before .before .before .before .before .before .before .before .before .before .before .before .before .before .before .before .before .before .before .before .before .if1 .left)) (lost-in-result given (made-by-processors given made-on) lost) (c .before .before .before .before .before .before .before .before .before .before .before .if2 .left) _ (c .before .before .latency .ensures ∙ late-is given (made-by-processors given made-on)) (c .if3 .taken),
       λ g proposed given thirteen. absurd (omega (arith, thirteen)),
     )
 
 returns-4 : tie.Need-returns-4
 returns-4 c =
-    let made-on = c .before .before .before .before .before .before .before .before .before .before .before .before .before .before .before .before .before .before .before .before .before .before .before .before .before .before .before .before .before .before .before .before .before .before .before .before .before .before .before .before .before .before .before .result-edges-into .ensures in
-    let reached = c .before .before .before .before .before .before .before .before .before .before .before .before .before .before .before .before .before .before .before .before .before .before .before .before .before .before .before .before .before .before .before .before .before .before .paths-between-processors .ensures in
-    let found = c .before .before .before .before .before .before .before .before .before .before .before .before .before .before .before .before .before .before .before .before .before .before .before .before .before .before .before .before .cyclic-place .ensures in
-    let lost = c .before .before .before .before .lost-order .ensures in (
+    let made-on = c .before .before .before .before .before .before .before .before .before .before .before .before .before .before .before .before .before .before .before .before .before .before .before .before .before .before .before .before .before .before .before .before .before .before .before .before .before .before .before .result-edges-into .ensures in
+    let reached = c .before .before .before .before .before .before .before .before .before .before .before .before .before .before .before .before .before .before .before .before .before .before .before .before .before .before .before .before .before .before .paths-between-processors .ensures in
+    let found = c .before .before .before .before .before .before .before .before .before .before .before .before .before .before .before .before .before .before .before .before .before .before .before .before .cyclic-place .ensures in
+    let lost = c .before .before .before .before .before .before .before .before .before .before .before .before .before .lost-order .ensures in (
       λ g proposed given.
-          judged-0 given (no-cycle-found given (found _ (result-reached given (made-by-processors given made-on) (reached _ (result-circled given (made-by-processors given made-on))))) (c .before .before .before .before .before .before .before .before .before .before .before .before .before .before .before .before .before .before .before .before .before .before .before .before .before .before .before .if1 .left)) (lost-in-result given (made-by-processors given made-on) lost) (c .before .before .if2 .left) _ (c .before .before .before .before .before .before .before .before .before .before .before .before .before .before .before .before .before .latency .ensures ∙ late-is given (made-by-processors given made-on)) (c .if3 .left),
+          judged-0 given (no-cycle-found given (found _ (result-reached given (made-by-processors given made-on) (reached _ (result-circled given (made-by-processors given made-on))))) (c .before .before .before .before .before .before .before .before .before .before .before .before .before .before .before .before .before .before .before .before .before .before .before .if1 .left)) (lost-in-result given (made-by-processors given made-on) lost) (c .before .before .before .before .before .before .before .before .before .before .before .if2 .left) _ (c .before .before .latency .ensures ∙ late-is given (made-by-processors given made-on)) (c .if3 .left),
       λ g proposed given thirteen. absurd (omega (arith, thirteen)),
     )
 
@@ -438,21 +421,6 @@ judge-spec =
     slice-aggregate-cyclic-place
     cyclic-place-requires
     returns
-    sub-latency
-    part-latency-start
-    part-latency-end
-    sub-latency-2
-    part-latency-start-2
-    part-latency-end-2
-    sub-latency-3
-    part-latency-start-3
-    part-latency-end-3
-    sub-latency-4
-    part-latency-start-4
-    part-latency-end-4
-    cast-latency
-    slice-aggregate-latency
-    latency-requires
     sub-lost-order
     part-lost-order-start
     part-lost-order-end
@@ -471,10 +439,21 @@ judge-spec =
     sub-lost-order-6
     part-lost-order-start-6
     part-lost-order-end-6
-    sub-lost-order-7
-    part-lost-order-start-7
-    part-lost-order-end-7
     lost-order-requires
     returns-2
+    sub-latency
+    part-latency-start
+    part-latency-end
+    sub-latency-2
+    part-latency-start-2
+    part-latency-end-2
+    sub-latency-3
+    part-latency-start-3
+    part-latency-end-3
+    sub-latency-4
+    part-latency-start-4
+    part-latency-end-4
+    cast-latency
+    latency-requires
     returns-3
     returns-4)

@@ -1,223 +1,156 @@
--- `verdicts::lost_order` meets its contract: no order is lost where all edges are there, nor where no delay is below its entry in the square of single
--- edges; if one alone is, its order decides; otherwise the table of least delays shows the first that is.
-use mathlib.Core.Path.{_≡_, sym, ap, _∙_}
-use mathlib.Core.List.{List}
-use Prim.Native.Nat.{ℕ, _+_, _-_, _*_, _≤_}
+-- `verdicts::lost_order` meets its contract: the orders looked at so far are held. One is held where the entry of its ends is within its delay, and lost where
+-- that entry is above it in a finished row.
+use mathlib.Core.Path.{_≡_, refl, sym, ap, _∙_}
+use mathlib.Core.Logic.{⊎-elim}
+use mathlib.Core.Bool.{true}
+use Prim.Native.Nat.{ℕ, _+_, _-_, _*_, _≤_, _<_}
+use native.Mathlib.Numerals.{add-one}
 use native.Mathlib.Omega.{arith}
-use borrow.Author.Needs.{needs}
-use lib.ListN.{length}
-use Rattle.model.specs.Tasks.{Edge}
-use Rattle.files.specs.declared.Refusal.{Refusal}
+use borrow.Author.Count.{below-none, below-more}
+use lib.ListN.{length, getD}
+use Rattle.model.specs.Compute.{orderHolds}
 use Rattle.records.specs.Columns.{heldEdge, edgesOf}
-use Rattle.records.proofs.Rows.{product-small}
-use Rattle.delays.proofs.Table.{table-length, table-front, table-room}
-use Rattle.sweeps.proofs.Over.{fit-at}
-use Rattle.ways.specs.Ways.{StepsOf}
-use Rattle.schedule.proofs.Fronts.{front}
-use Rattle.verdicts.proofs.Tables.{front-length, front-steps, found-above, lost-by-table, none-lost-among, none-lost-by-steps, kept-alone, lost-alone}
+use Rattle.delays.specs.Rows.{Known}
+use Rattle.delays.proofs.Steps.{fit-wide, steps-known}
+use Rattle.verdicts.proofs.Orders.{held, place, moved, order-held, order-lost, first-lost, none-lost}
 use Rattle.verdicts.proofs.lost_order.Statement.{statement}
 use Rattle.verdicts.proofs.lost_order.Tie as tie
 
-room : (c : tie.Start) → c .args .tasks * c .args .tasks ≤ 4096
-room c = product-small (c .args .tasks) (c .args .tasks) (c .pre .1 .1 .0 .2) (c .pre .1 .1 .0 .2)
+abbrev Inv-loop : tie.InvT-loop
+Inv-loop source sink delay result-source result-sink result-delay tasks known₀ done₀ j₀ known done j = (tasks + j ≤ length source) × Known tasks (edgesOf result-source result-sink result-delay) done known × ((i : ℕ) → i < j → orderHolds tasks (edgesOf result-source result-sink result-delay) (heldEdge source sink delay (tasks + i)) ≡ true)
 
-abbrev result : tie.Start → List Edge
-result c = edgesOf (c .args .result-source .now) (c .args .result-sink .now) (c .args .result-delay .now)
+abbrev μ-loop : tie.MeasureT-loop
+μ-loop source sink delay result-source result-sink result-delay tasks known₀ done₀ j₀ known done j = length source - (tasks + j)
 
-abbrev start : tie.After-take-steps → tie.Start
-start c = c .before .before .before .before .before .before .before .before .before .before
+slice-aggregate-take-steps : tie.Need-slice-aggregate-take-steps Inv-loop μ-loop
+slice-aggregate-take-steps c = refl
 
--- the front of the square, with the single edges of the result
-module _ (c : tie.After-take-steps) where
-  abbrev square : List ℕ
-  square = front (start c .args .tasks * start c .args .tasks) (c .take-steps .last .1 .1 .1 .1 .0)
+take-steps-requires : tie.Need-take-steps-requires Inv-loop μ-loop
+take-steps-requires c κs = (c .before .before .before .before .before .before .before .pre .1 .0, (fit-wide (c .before .before .before .before .before .before .before .pre .1 .1 .0 .2) (c .before .before .before .before .before .before .before .pre .1 .1 .1 .1), refl))
 
-  size : length square ≡ start c .args .tasks * start c .args .tasks
-  size = front-length (start c .pre .1 .1 .0 .2) (c .take-steps .ensures .0) (c .take-steps .ensures .1)
+loop-holds : tie.Need-loop-holds Inv-loop μ-loop
+loop-holds c = (omega (arith, c .before .before .before .before .before .before .before .before .before .pre .1 .1 .0 .0), steps-known (c .before .before .before .before .before .before .before .before .before .pre .1 .1 .0 .2) (c .before .before .before .before .before .before .before .before .before .pre .1 .1 .1 .1) (c .before .take-steps .ensures), below-none (λ i. held (c .before .before .before .before .before .before .before .before .before .args .source .now) (c .before .before .before .before .before .before .before .before .before .args .sink .now) (c .before .before .before .before .before .before .before .before .before .args .delay .now) (edgesOf (c .before .before .before .before .before .before .before .before .before .args .result-source .now) (c .before .before .before .before .before .before .before .before .before .args .result-sink .now) (c .before .before .before .before .before .before .before .before .before .args .result-delay .now)) (c .before .before .before .before .before .before .before .before .before .pre .1 .1 .1 .0) i ≡ true))
 
-  steps : StepsOf (start c .args .tasks) (result (start c)) square
-  steps = front-steps (start c .pre .1 .1 .0 .2) (c .take-steps .ensures .0) (c .take-steps .ensures .1)
+add-loop : tie.Need-add-loop Inv-loop μ-loop
+add-loop c = omega (arith, c .loop .inv .0, c .before .before .before .before .before .before .before .before .before .before .pre .1 .1 .0 .1)
 
--- the place of the edge that is found stands in the lists
-open-place :
-    (c : tie.After-first-above) → (c .first-above .result .number ≡ 0 → ⊥) → (1 ≤ c .first-above .result .place)
-    × (start (c .before .before .before .before) .args .tasks + c .first-above .result .place
-    ≤ length (start (c .before .before .before .before) .args .source .now))
-open-place c refuses =
-    let found = found-above (c .first-above .ensures) refuses in
-    let is = ap (λ (r : Refusal). r .place) (found .1) in
-    (omega (arith, is), omega (arith, is, found .2))
+add-from : tie.Need-add-from Inv-loop μ-loop
+add-from c = omega (arith, c .before .loop .inv .0, c .before .before .before .before .before .before .before .before .before .before .before .pre .1 .1 .0 .1)
 
-add-if1 : tie.Need-add-if1
-add-if1 c = search needs
+shared-slice-read-from : tie.Need-shared-slice-read-from Inv-loop μ-loop
+shared-slice-read-from c = omega (arith, c .before .loop-test .taken)
 
-returns : tie.Need-returns
+cast-from : tie.Need-cast-from Inv-loop μ-loop
+cast-from c = omega (arith, c .shared-slice-known7 .given (c .before .before .before .before .before .before .before .before .before .before .before .before .args .tasks + c .before .before .loop .j))
+
+mul-at : tie.Need-mul-at Inv-loop μ-loop
+mul-at c = omega (arith, place (c .before .before .before .before .before .before .before .before .before .before .before .before .args .source .now) (c .before .before .before .before .before .before .before .before .before .before .before .before .args .sink .now) (c .before .before .before .before .before .before .before .before .before .before .before .before .args .delay .now) (edgesOf (c .before .before .before .before .before .before .before .before .before .before .before .before .args .result-source .now) (c .before .before .before .before .before .before .before .before .before .before .before .before .args .result-sink .now) (c .before .before .before .before .before .before .before .before .before .before .before .before .args .result-delay .now)) (c .before .before .before .before .before .before .before .before .before .before .before .before .pre .1 .1 .1 .0) (c .before .before .loop .j) (c .before .before .before .before .before .before .before .before .before .before .before .before .pre .1 .1 .0 .2) (c .before .loop-test .taken))
+
+add-at : tie.Need-add-at Inv-loop μ-loop
+add-at c = omega (arith, c .before .before .loop .inv .0, c .before .before .before .before .before .before .before .before .before .before .before .before .pre .1 .1 .0 .1)
+
+shared-slice-read-at : tie.Need-shared-slice-read-at Inv-loop μ-loop
+shared-slice-read-at c = omega (arith, c .before .before .loop-test .taken, c .before .before .before .before .before .before .before .before .before .before .before .before .before .pre .0 .0)
+
+cast-at : tie.Need-cast-at Inv-loop μ-loop
+cast-at c = omega (arith, c .shared-slice-known8 .given (c .before .before .before .before .before .before .before .before .before .before .before .before .before .args .tasks + c .before .before .before .loop .j))
+
+add-at-2 : tie.Need-add-at-2 Inv-loop μ-loop
+add-at-2 c = omega (arith, place (c .before .before .before .before .before .before .before .before .before .before .before .before .before .args .source .now) (c .before .before .before .before .before .before .before .before .before .before .before .before .before .args .sink .now) (c .before .before .before .before .before .before .before .before .before .before .before .before .before .args .delay .now) (edgesOf (c .before .before .before .before .before .before .before .before .before .before .before .before .before .args .result-source .now) (c .before .before .before .before .before .before .before .before .before .before .before .before .before .args .result-sink .now) (c .before .before .before .before .before .before .before .before .before .before .before .before .before .args .result-delay .now)) (c .before .before .before .before .before .before .before .before .before .before .before .before .before .pre .1 .1 .1 .0) (c .before .before .before .loop .j) (c .before .before .before .before .before .before .before .before .before .before .before .before .before .pre .1 .1 .0 .2) (c .before .before .loop-test .taken))
+
+add-most : tie.Need-add-most Inv-loop μ-loop
+add-most c = omega (arith, c .before .before .before .loop .inv .0, c .before .before .before .before .before .before .before .before .before .before .before .before .before .pre .1 .1 .0 .1)
+
+shared-slice-read-most : tie.Need-shared-slice-read-most Inv-loop μ-loop
+shared-slice-read-most c = omega (arith, c .before .before .before .loop-test .taken, c .before .before .before .before .before .before .before .before .before .before .before .before .before .before .pre .0 .1)
+
+cast-most : tie.Need-cast-most Inv-loop μ-loop
+cast-most c = omega (arith, c .shared-slice-known9 .given (c .before .before .before .before .before .before .before .before .before .before .before .before .before .before .args .tasks + c .before .before .before .before .loop .j))
+
+mul-if1 : tie.Need-mul-if1 Inv-loop μ-loop
+mul-if1 c = omega (arith, place (c .before .before .before .before .before .before .before .before .before .before .before .before .before .before .args .source .now) (c .before .before .before .before .before .before .before .before .before .before .before .before .before .before .args .sink .now) (c .before .before .before .before .before .before .before .before .before .before .before .before .before .before .args .delay .now) (edgesOf (c .before .before .before .before .before .before .before .before .before .before .before .before .before .before .args .result-source .now) (c .before .before .before .before .before .before .before .before .before .before .before .before .before .before .args .result-sink .now) (c .before .before .before .before .before .before .before .before .before .before .before .before .before .before .args .result-delay .now)) (c .before .before .before .before .before .before .before .before .before .before .before .before .before .before .pre .1 .1 .1 .0) (c .before .before .before .before .loop .j) (c .before .before .before .before .before .before .before .before .before .before .before .before .before .before .pre .1 .1 .0 .2) (c .before .before .before .loop-test .taken))
+
+array-read-if1 : tie.Need-array-read-if1 Inv-loop μ-loop
+array-read-if1 c = omega (arith, place (c .before .before .before .before .before .before .before .before .before .before .before .before .before .before .args .source .now) (c .before .before .before .before .before .before .before .before .before .before .before .before .before .before .args .sink .now) (c .before .before .before .before .before .before .before .before .before .before .before .before .before .before .args .delay .now) (edgesOf (c .before .before .before .before .before .before .before .before .before .before .before .before .before .before .args .result-source .now) (c .before .before .before .before .before .before .before .before .before .before .before .before .before .before .args .result-sink .now) (c .before .before .before .before .before .before .before .before .before .before .before .before .before .before .args .result-delay .now)) (c .before .before .before .before .before .before .before .before .before .before .before .before .before .before .pre .1 .1 .1 .0) (c .before .before .before .before .loop .j) (c .before .before .before .before .before .before .before .before .before .before .before .before .before .before .pre .1 .1 .0 .2) (c .before .before .before .loop-test .taken), c .before .before .before .before .loop .inv .1 .size)
+
+slice-aggregate-finish-row : tie.Need-slice-aggregate-finish-row Inv-loop μ-loop
+slice-aggregate-finish-row c = sym (c .before .before .before .before .before .before .loop .inv .1 .size)
+
+finish-row-requires : tie.Need-finish-row-requires Inv-loop μ-loop
+finish-row-requires c κs = (omega (arith, place (c .before .before .before .before .before .before .before .before .before .before .before .before .before .before .before .before .args .source .now) (c .before .before .before .before .before .before .before .before .before .before .before .before .before .before .before .before .args .sink .now) (c .before .before .before .before .before .before .before .before .before .before .before .before .before .before .before .before .args .delay .now) (edgesOf (c .before .before .before .before .before .before .before .before .before .before .before .before .before .before .before .before .args .result-source .now) (c .before .before .before .before .before .before .before .before .before .before .before .before .before .before .before .before .args .result-sink .now) (c .before .before .before .before .before .before .before .before .before .before .before .before .before .before .before .before .args .result-delay .now)) (c .before .before .before .before .before .before .before .before .before .before .before .before .before .before .before .before .pre .1 .1 .1 .0) (c .before .before .before .before .before .before .loop .j) (c .before .before .before .before .before .before .before .before .before .before .before .before .before .before .before .before .pre .1 .1 .0 .2) (c .before .before .before .before .before .loop-test .taken)), ((edgesOf (c .before .before .before .before .before .before .before .before .before .before .before .before .before .before .before .before .args .result-source .now) (c .before .before .before .before .before .before .before .before .before .before .before .before .before .before .before .before .args .result-sink .now) (c .before .before .before .before .before .before .before .before .before .before .before .before .before .before .before .before .args .result-delay .now)), c .before .before .before .before .before .before .loop .inv .1))
+
+mul-if2 : tie.Need-mul-if2 Inv-loop μ-loop
+mul-if2 c = omega (arith, place (c .before .before .before .before .before .before .before .before .before .before .before .before .before .before .before .before .before .before .args .source .now) (c .before .before .before .before .before .before .before .before .before .before .before .before .before .before .before .before .before .before .args .sink .now) (c .before .before .before .before .before .before .before .before .before .before .before .before .before .before .before .before .before .before .args .delay .now) (edgesOf (c .before .before .before .before .before .before .before .before .before .before .before .before .before .before .before .before .before .before .args .result-source .now) (c .before .before .before .before .before .before .before .before .before .before .before .before .before .before .before .before .before .before .args .result-sink .now) (c .before .before .before .before .before .before .before .before .before .before .before .before .before .before .before .before .before .before .args .result-delay .now)) (c .before .before .before .before .before .before .before .before .before .before .before .before .before .before .before .before .before .before .pre .1 .1 .1 .0) (c .before .before .before .before .before .before .before .before .loop .j) (c .before .before .before .before .before .before .before .before .before .before .before .before .before .before .before .before .before .before .pre .1 .1 .0 .2) (c .before .before .before .before .before .before .before .loop-test .taken))
+
+array-read-if2 : tie.Need-array-read-if2 Inv-loop μ-loop
+array-read-if2 c = omega (arith, place (c .before .before .before .before .before .before .before .before .before .before .before .before .before .before .before .before .before .before .args .source .now) (c .before .before .before .before .before .before .before .before .before .before .before .before .before .before .before .before .before .before .args .sink .now) (c .before .before .before .before .before .before .before .before .before .before .before .before .before .before .before .before .before .before .args .delay .now) (edgesOf (c .before .before .before .before .before .before .before .before .before .before .before .before .before .before .before .before .before .before .args .result-source .now) (c .before .before .before .before .before .before .before .before .before .before .before .before .before .before .before .before .before .before .args .result-sink .now) (c .before .before .before .before .before .before .before .before .before .before .before .before .before .before .before .before .before .before .args .result-delay .now)) (c .before .before .before .before .before .before .before .before .before .before .before .before .before .before .before .before .before .before .pre .1 .1 .1 .0) (c .before .before .before .before .before .before .before .before .loop .j) (c .before .before .before .before .before .before .before .before .before .before .before .before .before .before .before .before .before .before .pre .1 .1 .0 .2) (c .before .before .before .before .before .before .before .loop-test .taken), c .before .finish-row .ensures .1 (edgesOf (c .before .before .before .before .before .before .before .before .before .before .before .before .before .before .before .before .before .before .args .result-source .now) (c .before .before .before .before .before .before .before .before .before .before .before .before .before .before .before .before .before .before .args .result-sink .now) (c .before .before .before .before .before .before .before .before .before .before .before .before .before .before .before .before .before .before .args .result-delay .now)) (c .before .before .before .before .before .before .before .before .loop .inv .1) .size)
+
+cast-t35 : tie.Need-cast-t35 Inv-loop μ-loop
+cast-t35 c = omega (arith, c .before .before .before .before .before .before .before .before .loop-test .taken, c .before .before .before .before .before .before .before .before .before .before .before .before .before .before .before .before .before .before .before .pre .1 .1 .0 .1)
+
+add-t36 : tie.Need-add-t36 Inv-loop μ-loop
+add-t36 c = omega (arith, c .before .before .before .before .before .before .before .before .loop-test .taken, c .before .before .before .before .before .before .before .before .before .before .before .before .before .before .before .before .before .before .before .pre .1 .1 .0 .1)
+
+returns : tie.Need-returns Inv-loop μ-loop
 returns c =
-    let from = c .before .before .before .before .before .before .before .before in
-    none-lost-among (from .pre .1 .1 .0 .2) (from .args .source .now) (from .args .sink .now) (from .args .delay .now) (result from) (from .pre .1 .1 .1 .1 .0) (from .pre .1 .1 .1 .1 .1 .ends) (from .pre .1 .1 .1 .0 (c .if1 .taken))
+    let square = c .before .before .finish-row .ensures .1 (edgesOf (c .before .before .before .before .before .before .before .before .before .before .before .before .before .before .before .before .before .before .before .args .result-source .now) (c .before .before .before .before .before .before .before .before .before .before .before .before .before .before .before .before .before .before .before .args .result-sink .now) (c .before .before .before .before .before .before .before .before .before .before .before .before .before .before .before .before .before .before .before .args .result-delay .now)) (c .before .before .before .before .before .before .before .before .before .loop .inv .1) in
+    ap (λ (k : ℕ). record { number = 14; place = k }) (add-one (c .before .before .before .before .before .before .before .before .before .loop .j)) ∙
+    first-lost (c .before .before .before .before .before .before .before .before .before .before .before .before .before .before .before .before .before .before .before .args .source .now) (c .before .before .before .before .before .before .before .before .before .before .before .before .before .before .before .before .before .before .before .args .sink .now) (c .before .before .before .before .before .before .before .before .before .before .before .before .before .before .before .before .before .before .before .args .delay .now) (edgesOf (c .before .before .before .before .before .before .before .before .before .before .before .before .before .before .before .before .before .before .before .args .result-source .now) (c .before .before .before .before .before .before .before .before .before .before .before .before .before .before .before .before .before .before .before .args .result-sink .now) (c .before .before .before .before .before .before .before .before .before .before .before .before .before .before .before .before .before .before .before .args .result-delay .now)) (c .before .before .before .before .before .before .before .before .before .before .before .before .before .before .before .before .before .before .before .pre .1 .1 .1 .0) (c .before .before .before .before .before .before .before .before .before .loop .j) (c .before .before .before .before .before .before .before .before .loop-test .taken) (c .before .before .before .before .before .before .before .before .before .loop .inv .2) (order-lost (c .before .before .before .before .before .before .before .before .before .before .before .before .before .before .before .before .before .before .before .args .source .now) (c .before .before .before .before .before .before .before .before .before .before .before .before .before .before .before .before .before .before .before .args .sink .now) (c .before .before .before .before .before .before .before .before .before .before .before .before .before .before .before .before .before .before .before .args .delay .now) (edgesOf (c .before .before .before .before .before .before .before .before .before .before .before .before .before .before .before .before .before .before .before .args .result-source .now) (c .before .before .before .before .before .before .before .before .before .before .before .before .before .before .before .before .before .before .before .args .result-sink .now) (c .before .before .before .before .before .before .before .before .before .before .before .before .before .before .before .before .before .before .before .args .result-delay .now)) (c .before .before .before .before .before .before .before .before .before .before .before .before .before .before .before .before .before .before .before .pre .1 .1 .1 .0) (c .before .before .before .before .before .before .before .before .before .loop .j) square (c .before .before .before .before .before .before .before .before .loop-test .taken) (c .before .before .finish-row .ensures .0) (c .if2 .taken))
 
-slice-aggregate-take-steps : tie.Need-slice-aggregate-take-steps
-slice-aggregate-take-steps c = search needs
+add-j : tie.Need-add-j Inv-loop μ-loop
+add-j c = omega (arith, c .before .before .before .before .loop-test .taken, c .before .before .before .before .before .before .before .before .before .before .before .before .before .before .before .pre .1 .1 .0 .1)
 
-take-steps-requires : tie.Need-take-steps-requires
-take-steps-requires c κs = search needs
+loop-less : tie.Need-loop-less Inv-loop μ-loop
+loop-less c = omega (arith, c .before .before .before .before .loop-test .taken)
 
-mul-first-above : tie.Need-mul-first-above
-mul-first-above c = record { fits = omega (arith, room (c .before .before .before .before .before .before .before .before .before .before .before)) }
+loop-again : tie.Need-loop-again Inv-loop μ-loop
+loop-again c =
+    let k = c .before .before .before .before .before .before .before .before .before .before .before .before .before .before .before .args .tasks + c .before .before .before .before .before .loop .j in
+    let place = getD (c .before .before .before .before .before .before .before .before .before .before .before .before .before .before .before .args .source .now) k 0 * 64 + getD (c .before .before .before .before .before .before .before .before .before .before .before .before .before .before .before .args .sink .now) k 0 in
+    let now : Known (c .before .before .before .before .before .before .before .before .before .before .before .before .before .before .before .args .tasks) (edgesOf (c .before .before .before .before .before .before .before .before .before .before .before .before .before .before .before .args .result-source .now) (c .before .before .before .before .before .before .before .before .before .before .before .before .before .before .before .args .result-sink .now) (c .before .before .before .before .before .before .before .before .before .before .before .before .before .before .before .args .result-delay .now)) (c .if1 .done) (c .if1 .known) × (getD (c .if1 .known) place 0 ≤ getD (c .before .before .before .before .before .before .before .before .before .before .before .before .before .before .before .args .delay .now) k 0) =
+    ⊎-elim
+    (λ w. moved place (getD (c .before .before .before .before .before .before .before .before .before .before .before .before .before .before .before .args .delay .now) k 0) (w .5) (w .6) (w .2 .ensures .1 (edgesOf (c .before .before .before .before .before .before .before .before .before .before .before .before .before .before .before .args .result-source .now) (c .before .before .before .before .before .before .before .before .before .before .before .before .before .before .before .args .result-sink .now) (c .before .before .before .before .before .before .before .before .before .before .before .before .before .before .before .args .result-delay .now)) (c .before .before .before .before .before .loop .inv .1)) (w .4 .left))
+    (λ w. moved place (getD (c .before .before .before .before .before .before .before .before .before .before .before .before .before .before .before .args .delay .now) k 0) (w .1) (w .2) (c .before .before .before .before .before .loop .inv .1) (w .0 .left))
+    (c .if1 .came) in (
+      omega (arith, c .before .before .before .before .loop-test .taken),
+      now .0,
+      below-more (λ i. held (c .before .before .before .before .before .before .before .before .before .before .before .before .before .before .before .args .source .now) (c .before .before .before .before .before .before .before .before .before .before .before .before .before .before .before .args .sink .now) (c .before .before .before .before .before .before .before .before .before .before .before .before .before .before .before .args .delay .now) (edgesOf (c .before .before .before .before .before .before .before .before .before .before .before .before .before .before .before .args .result-source .now) (c .before .before .before .before .before .before .before .before .before .before .before .before .before .before .before .args .result-sink .now) (c .before .before .before .before .before .before .before .before .before .before .before .before .before .before .before .args .result-delay .now)) (c .before .before .before .before .before .before .before .before .before .before .before .before .before .before .before .pre .1 .1 .1 .0) i ≡ true) (c .before .before .before .before .before .loop .j) (c .before .before .before .before .before .loop .inv .2) (order-held (c .before .before .before .before .before .before .before .before .before .before .before .before .before .before .before .args .source .now) (c .before .before .before .before .before .before .before .before .before .before .before .before .before .before .before .args .sink .now) (c .before .before .before .before .before .before .before .before .before .before .before .before .before .before .before .args .delay .now) (edgesOf (c .before .before .before .before .before .before .before .before .before .before .before .before .before .before .before .args .result-source .now) (c .before .before .before .before .before .before .before .before .before .before .before .before .before .before .before .args .result-sink .now) (c .before .before .before .before .before .before .before .before .before .before .before .before .before .before .before .args .result-delay .now)) (c .before .before .before .before .before .before .before .before .before .before .before .before .before .before .before .pre .1 .1 .1 .0) (c .before .before .before .before .before .loop .j) (now .0) (c .before .before .before .before .loop-test .taken) (now .1)),
+    )
 
-sub-first-above : tie.Need-sub-first-above
-sub-first-above c = search needs
-
-part-first-above-start : tie.Need-part-first-above-start
-part-first-above-start c = search needs
-
-part-first-above-end : tie.Need-part-first-above-end
-part-first-above-end c = omega (arith, room (c .before .before .before .before .before .before .before .before .before .before .before .before), c .before .before .take-steps .ensures .0)
-
-first-above-requires : tie.Need-first-above-requires
-first-above-requires c κs =
-    let from = c .before .before .before .before .before .before .before .before .before .before .before .before .before in
-    (from .pre .0, ((from .pre .1 .1 .0 .0, from .pre .1 .1 .0 .1), ((from .pre .1 .1 .0 .2, size (c .before .before .before)), from .pre .1 .1 .1 .1 .0)))
-
-returns-2 : tie.Need-returns-2
-returns-2 c =
-    let from = c .before .before .before .before .before .before .before .before .before .before .before .before .before .before .before .before in
-    none-lost-by-steps (from .pre .1 .1 .0 .2) (from .args .source .now) (from .args .sink .now) (from .args .delay .now) (result from) (from .pre .1 .1 .1 .1 .0) (steps (c .before .before .before .before .before .before)) (c .before .before .first-above .ensures) (c .if2 .taken)
-
-cast-next : tie.Need-cast-next
-cast-next c = search needs
-
-mul-none-above : tie.Need-mul-none-above
-mul-none-above c = record { fits = omega (arith, room (c .before .before .before .before .before .before .before .before .before .before .before .before .before .before .before .before .before)) }
-
-sub-none-above : tie.Need-sub-none-above
-sub-none-above c = search needs
-
-part-none-above-start : tie.Need-part-none-above-start
-part-none-above-start c = search needs
-
-part-none-above-end : tie.Need-part-none-above-end
-part-none-above-end c = omega (arith, room (c .before .before .before .before .before .before .before .before .before .before .before .before .before .before .before .before .before .before), c .before .before .before .before .before .before .before .before .take-steps .ensures .0)
-
-none-above-requires : tie.Need-none-above-requires
-none-above-requires c κs =
-    let from = c .before .before .before .before .before .before .before .before .before .before .before .before .before .before .before .before .before .before .before in
-    (from .pre .0, ((open-place (c .before .before .before .before .before) (c .before .before .before .if2 .left) .1, from .pre .1 .1 .0 .1), ((from .pre .1 .1 .0 .2, size (c .before .before .before .before .before .before .before .before .before)), from .pre .1 .1 .1 .1 .0)))
-
-add-alone : tie.Need-add-alone
-add-alone c = record { fits = omega (arith, open-place (c .before .before .before .before .before .before .before) (c .before .before .before .before .before .if2 .left) .1, c .before .before .before .before .before .before .before .before .before .before .before .before .before .before .before .before .before .before .before .before .before .pre .1 .1 .0 .1) }
-
-sub-alone : tie.Need-sub-alone
-sub-alone c = omega (arith, open-place (c .before .before .before .before .before .before .before) (c .before .before .before .before .before .if2 .left) .0)
-
-shared-slice-read-order-held : tie.Need-shared-slice-read-order-held
-shared-slice-read-order-held c = omega (arith, open-place (c .before .before .before .before .before .before .before .before) (c .before .before .before .before .before .before .if2 .left))
-
-shared-slice-read-order-held-2 : tie.Need-shared-slice-read-order-held-2
-shared-slice-read-order-held-2 c = omega (arith, open-place (c .before .before .before .before .before .before .before .before .before) (c .before .before .before .before .before .before .before .if2 .left), c .before .before .before .before .before .before .before .before .before .before .before .before .before .before .before .before .before .before .before .before .before .before .before .pre .0 .0)
-
-shared-slice-read-order-held-3 : tie.Need-shared-slice-read-order-held-3
-shared-slice-read-order-held-3 c = omega (arith, open-place (c .before .before .before .before .before .before .before .before .before .before) (c .before .before .before .before .before .before .before .before .if2 .left), c .before .before .before .before .before .before .before .before .before .before .before .before .before .before .before .before .before .before .before .before .before .before .before .before .pre .0 .1)
-
-mul-order-held : tie.Need-mul-order-held
-mul-order-held c = record { fits = omega (arith, room (c .before .before .before .before .before .before .before .before .before .before .before .before .before .before .before .before .before .before .before .before .before .before .before .before)) }
-
-sub-order-held : tie.Need-sub-order-held
-sub-order-held c = search needs
-
-part-order-held-start : tie.Need-part-order-held-start
-part-order-held-start c = search needs
-
-part-order-held-end : tie.Need-part-order-held-end
-part-order-held-end c = omega (arith, room (c .before .before .before .before .before .before .before .before .before .before .before .before .before .before .before .before .before .before .before .before .before .before .before .before .before), c .before .before .before .before .before .before .before .before .before .before .before .before .before .before .before .take-steps .ensures .0)
-
-order-held-requires : tie.Need-order-held-requires
-order-held-requires c κs =
-    let from = c .before .before .before .before .before .before .before .before .before .before .before .before .before .before .before .before .before .before .before .before .before .before .before .before .before .before in
-    let ends = fit-at (from .args .source .now) (from .args .sink .now) (from .args .delay .now) (from .args .tasks + c .before .before .before .before .before .before .before .before .before .before .before .before .first-above .result .place - 1) (from .pre .1 .1 .1 .1 .0) (omega (arith, open-place (c .before .before .before .before .before .before .before .before .before .before .before .before) (c .before .before .before .before .before .before .before .before .before .before .if2 .left))) in
-    (from .pre .1 .1 .0 .2, size (c .before .before .before .before .before .before .before .before .before .before .before .before .before .before .before .before), ends .0, ends .1)
-
-returns-3 : tie.Need-returns-3
-unfolding heldEdge
-returns-3 c =
-    let from = c .before .before .before .before .before .before .before .before .before .before .before .before .before .before .before .before .before .before .before .before .before .before .before .before .before .before .before .before in
-    kept-alone (from .pre .1 .1 .0 .2) (from .args .source .now) (from .args .sink .now) (from .args .delay .now) (result from) (from .pre .1 .1 .1 .1 .0) (steps (c .before .before .before .before .before .before .before .before .before .before .before .before .before .before .before .before .before .before)) (c .before .before .before .before .before .before .before .before .before .before .before .before .before .before .first-above .ensures) (c .before .before .before .before .before .before .before .before .before .before .before .before .if2 .left) (c .before .before .before .before .before .before .before .before .none-above .ensures (c .before .before .before .before .before .before .before .if3 .taken)) (sym (c .if4 .taken) ∙ c .before .order-held .ensures (result from) (steps (c .before .before .before .before .before .before .before .before .before .before .before .before .before .before .before .before .before .before)))
-
-returns-4 : tie.Need-returns-4
-unfolding heldEdge
-returns-4 c =
-    let from = c .before .before .before .before .before .before .before .before .before .before .before .before .before .before .before .before .before .before .before .before .before .before .before .before .before .before .before .before in
-    lost-alone (from .pre .1 .1 .0 .2) (from .args .source .now) (from .args .sink .now) (from .args .delay .now) (result from) (from .pre .1 .1 .1 .1 .0) (steps (c .before .before .before .before .before .before .before .before .before .before .before .before .before .before .before .before .before .before)) (c .before .before .before .before .before .before .before .before .before .before .before .before .before .before .first-above .ensures) (c .before .before .before .before .before .before .before .before .before .before .before .before .if2 .left) (c .before .before .before .before .before .before .before .before .none-above .ensures (c .before .before .before .before .before .before .before .if3 .taken)) (sym (c .if4 .left) ∙ c .before .order-held .ensures (result from) (steps (c .before .before .before .before .before .before .before .before .before .before .before .before .before .before .before .before .before .before)))
-
-slice-aggregate-least-table : tie.Need-slice-aggregate-least-table
-slice-aggregate-least-table c = search needs
-
-least-table-requires : tie.Need-least-table-requires
-least-table-requires c κs =
-    let from = c .before .before .before .before .before .before .before .before .before .before .before .before .before .before .before .before .before .before .before .before .before .before in
-    (from .pre .1 .0, ((from .pre .1 .1 .0 .2, omega (arith, room from, c .before .before .before .before .before .before .before .before .before .before .before .before .take-steps .ensures .0), from .pre .1 .1 .0 .4), from .pre .1 .1 .1 .1 .1))
-
-mul-first-above-2 : tie.Need-mul-first-above-2
-mul-first-above-2 c = record { fits = omega (arith, room (c .before .before .before .before .before .before .before .before .before .before .before .before .before .before .before .before .before .before .before .before .before .before .before .before)) }
-
-sub-first-above-2 : tie.Need-sub-first-above-2
-sub-first-above-2 c = search needs
-
-part-first-above-start-2 : tie.Need-part-first-above-start-2
-part-first-above-start-2 c = search needs
-
-part-first-above-end-2 : tie.Need-part-first-above-end-2
-part-first-above-end-2 c =
-    let from = c .before .before .before .before .before .before .before .before .before .before .before .before .before .before .before .before .before .before .before .before .before .before .before .before .before in
-    table-room (from .args .tasks) (result from) _ (c .before .before .least-table .ensures)
-
-first-above-requires-2 : tie.Need-first-above-requires-2
-first-above-requires-2 c κs =
-    let from = c .before .before .before .before .before .before .before .before .before .before .before .before .before .before .before .before .before .before .before .before .before .before .before .before .before .before in
-    (from .pre .0, ((from .pre .1 .1 .0 .0, from .pre .1 .1 .0 .1), ((from .pre .1 .1 .0 .2, ap length (table-front (from .args .tasks) (result from) _ (c .before .before .before .least-table .ensures)) ∙ table-length (from .args .tasks) (result from)), from .pre .1 .1 .1 .1 .0)))
-
-returns-5 : tie.Need-returns-5
-returns-5 c =
-    let from = c .before .before .before .before .before .before .before .before .before .before .before .before .before .before .before .before .before .before .before .before .before .before .before .before .before .before .before in
-    lost-by-table (from .pre .1 .1 .0 .2) (from .args .source .now) (from .args .sink .now) (from .args .delay .now) (result from) (from .pre .1 .1 .1 .1 .0) (record { fit = from .pre .1 .1 .1 .1 .1; least = table-front (from .args .tasks) (result from) _ (c .before .before .before .before .least-table .ensures) }) (c .first-above2 .ensures)
+returns-2 : tie.Need-returns-2 Inv-loop μ-loop
+returns-2 c = none-lost (c .before .before .before .before .before .before .before .before .before .before .before .args .source .now) (c .before .before .before .before .before .before .before .before .before .before .before .args .sink .now) (c .before .before .before .before .before .before .before .before .before .before .before .args .delay .now) (edgesOf (c .before .before .before .before .before .before .before .before .before .before .before .args .result-source .now) (c .before .before .before .before .before .before .before .before .before .before .before .args .result-sink .now) (c .before .before .before .before .before .before .before .before .before .before .before .args .result-delay .now)) (c .before .before .before .before .before .before .before .before .before .before .before .pre .1 .1 .1 .0) (c .before .loop .j) (c .loop-test .left) (c .before .loop .inv .2)
 
 pub lost-order-spec : {M : Type 1} → statement M
 lost-order-spec =
     tie.close
     (tie.spec
-    add-if1
-    returns
+    Inv-loop
+    μ-loop
     slice-aggregate-take-steps
     take-steps-requires
-    mul-first-above
-    sub-first-above
-    part-first-above-start
-    part-first-above-end
-    first-above-requires
-    returns-2
-    cast-next
-    mul-none-above
-    sub-none-above
-    part-none-above-start
-    part-none-above-end
-    none-above-requires
-    add-alone
-    sub-alone
-    shared-slice-read-order-held
-    shared-slice-read-order-held-2
-    shared-slice-read-order-held-3
-    mul-order-held
-    sub-order-held
-    part-order-held-start
-    part-order-held-end
-    order-held-requires
-    returns-3
-    returns-4
-    slice-aggregate-least-table
-    least-table-requires
-    mul-first-above-2
-    sub-first-above-2
-    part-first-above-start-2
-    part-first-above-end-2
-    first-above-requires-2
-    returns-5)
+    loop-holds
+    add-loop
+    add-from
+    shared-slice-read-from
+    cast-from
+    mul-at
+    add-at
+    shared-slice-read-at
+    cast-at
+    add-at-2
+    add-most
+    shared-slice-read-most
+    cast-most
+    mul-if1
+    array-read-if1
+    slice-aggregate-finish-row
+    finish-row-requires
+    mul-if2
+    array-read-if2
+    cast-t35
+    add-t36
+    returns
+    add-j
+    loop-less
+    loop-again
+    returns-2)

@@ -1,11 +1,9 @@
 -- `resync::calls::least_delays` meets its contract: refused, it keeps the list; else the fronts of the lists that were read hold the graph, and their
 -- table is the graph's.
-use mathlib.Core.Path.{_≡_, refl}
-use Prim.Native.Nat.{_-_}
+use mathlib.Core.Path.{refl}
 use native.Mathlib.Omega.{arith}
-use lib.ListN.{length, length-take}
 use Rattle.records.proofs.Rows.{product-small}
-use Rattle.resync.proofs.Checked.{lists-within, few-tasks, well-formed, read-fronts, read-fit}
+use Rattle.resync.proofs.Checked.{lists-within, few-tasks, read-fronts, read-fit}
 use Rattle.resync.proofs.Results.{delays-told, delays-room, delays-kept, delays-written}
 use Rattle.records.specs.Columns.{zeros}
 use borrow.Author.Needs.{needs}
@@ -27,19 +25,16 @@ slice-aggregate-accept-into-4 c = search needs
 slice-aggregate-accept-into-5 : tie.Need-slice-aggregate-accept-into-5
 slice-aggregate-accept-into-5 c = search needs
 
-slice-aggregate-accept-into-6 : tie.Need-slice-aggregate-accept-into-6
-slice-aggregate-accept-into-6 c = search needs
-
 accept-into-requires : tie.Need-accept-into-requires
 unfolding zeros
-accept-into-requires c κs = ((refl, refl, refl), (refl, refl, refl))
+accept-into-requires c κs = ((refl, refl), (refl, refl, refl))
 
 cast-tasks : tie.Need-cast-tasks
 cast-tasks c = search needs
 
 mul-with-room : tie.Need-mul-with-room
 mul-with-room c =
-    let few = few-tasks (c .before .before .before .before .before .before .before .before .before .before .before .before .before .before .before .before .before .args .graph .now) (c .before .before .before .before .before .before .before .before .accept-into .ensures) in
+    let few = few-tasks (c .before .before .before .before .before .before .before .before .before .before .before .before .before .before .before .args .graph .now) (c .before .before .before .before .before .before .before .accept-into .ensures) in
     record { fits = omega (arith, product-small _ _ few few) }
 
 with-room-requires : tie.Need-with-room-requires
@@ -50,9 +45,9 @@ told-requires c κs = search needs
 
 returns : tie.Need-returns
 returns c =
-    let s = c .before .before .before .before .before .before .before .before .before .before .before .before .before .before .before .before .before .before .before .before .before .args .graph .now in
-    let table = c .before .before .before .before .before .before .before .before .before .before .before .before .before .before .before .before .before .before .before .before .before .args .table .now in
-    let is = c .before .before .before .before .before .before .before .before .before .before .before .before .accept-into .ensures in
+    let s = c .before .before .before .before .before .before .before .before .before .before .before .before .before .before .before .before .before .before .before .args .graph .now in
+    let table = c .before .before .before .before .before .before .before .before .before .before .before .before .before .before .before .before .before .before .before .args .table .now in
+    let is = c .before .before .before .before .before .before .before .before .before .before .before .accept-into .ensures in
     let checked = c .before .before .before .with-room .ensures in
     (delays-told s is table checked (c .told .ensures), delays-kept s is table checked (c .before .if1 .taken))
 
@@ -70,9 +65,9 @@ part-least-table-start c = search needs
 
 part-least-table-end : tie.Need-part-least-table-end
 part-least-table-end c =
-    let s = c .before .before .before .before .before .before .before .before .before .before .before .before .before .before .before .before .before .before .before .before .before .before .args .graph .now in
-    let table = c .before .before .before .before .before .before .before .before .before .before .before .before .before .before .before .before .before .before .before .before .before .before .args .table .now in
-    let is = c .before .before .before .before .before .before .before .before .before .before .before .before .before .accept-into .ensures in
+    let s = c .before .before .before .before .before .before .before .before .before .before .before .before .before .before .before .before .before .before .before .before .args .graph .now in
+    let table = c .before .before .before .before .before .before .before .before .before .before .before .before .before .before .before .before .before .before .before .before .args .table .now in
+    let is = c .before .before .before .before .before .before .before .before .before .before .before .before .accept-into .ensures in
     let checked = c .before .before .before .before .with-room .ensures in
     let room = delays-room s is table checked (c .before .before .if1 .left) in
     lists-within s is (room .0) .source
@@ -85,9 +80,9 @@ part-least-table-start-2 c = search needs
 
 part-least-table-end-2 : tie.Need-part-least-table-end-2
 part-least-table-end-2 c =
-    let s = c .before .before .before .before .before .before .before .before .before .before .before .before .before .before .before .before .before .before .before .before .before .before .before .before .args .graph .now in
-    let table = c .before .before .before .before .before .before .before .before .before .before .before .before .before .before .before .before .before .before .before .before .before .before .before .before .args .table .now in
-    let is = c .before .before .before .before .before .before .before .before .before .before .before .before .before .before .before .accept-into .ensures in
+    let s = c .before .before .before .before .before .before .before .before .before .before .before .before .before .before .before .before .before .before .before .before .before .before .args .graph .now in
+    let table = c .before .before .before .before .before .before .before .before .before .before .before .before .before .before .before .before .before .before .before .before .before .before .args .table .now in
+    let is = c .before .before .before .before .before .before .before .before .before .before .before .before .before .before .accept-into .ensures in
     let checked = c .before .before .before .before .before .before .with-room .ensures in
     let room = delays-room s is table checked (c .before .before .before .before .if1 .left) in
     lists-within s is (room .0) .sink
@@ -100,35 +95,22 @@ part-least-table-start-3 c = search needs
 
 part-least-table-end-3 : tie.Need-part-least-table-end-3
 part-least-table-end-3 c =
-    let s = c .before .before .before .before .before .before .before .before .before .before .before .before .before .before .before .before .before .before .before .before .before .before .before .before .before .before .args .graph .now in
-    let table = c .before .before .before .before .before .before .before .before .before .before .before .before .before .before .before .before .before .before .before .before .before .before .before .before .before .before .args .table .now in
-    let is = c .before .before .before .before .before .before .before .before .before .before .before .before .before .before .before .before .before .accept-into .ensures in
+    let s = c .before .before .before .before .before .before .before .before .before .before .before .before .before .before .before .before .before .before .before .before .before .before .before .before .args .graph .now in
+    let table = c .before .before .before .before .before .before .before .before .before .before .before .before .before .before .before .before .before .before .before .before .before .before .before .before .args .table .now in
+    let is = c .before .before .before .before .before .before .before .before .before .before .before .before .before .before .before .before .accept-into .ensures in
     let checked = c .before .before .before .before .before .before .before .before .with-room .ensures in
     let room = delays-room s is table checked (c .before .before .before .before .before .before .if1 .left) in
     lists-within s is (room .0) .delay
 
-sub-least-table-4 : tie.Need-sub-least-table-4
-sub-least-table-4 c = search needs
-
-part-least-table-start-4 : tie.Need-part-least-table-start-4
-part-least-table-start-4 c = search needs
-
-part-least-table-end-4 : tie.Need-part-least-table-end-4
-part-least-table-end-4 c =
-    let long : length (c .before .before .before .before .before .before .before .before .before .before .before .before .before .before .before .before .before .before .before .accept-into .last .1 .1 .1 .1 .1 .1 .0) ≡ 64 = c .before .before .before .before .before .before .before .before .before .before .before .before .before .before .before .before .before .before .before .accept-into .kept .1 .1 .1 .1 .1 .1 .0 in
-    omega (arith, long, few-tasks (c .before .before .before .before .before .before .before .before .before .before .before .before .before .before .before .before .before .before .before .before .before .before .before .before .before .before .before .before .args .graph .now) (c .before .before .before .before .before .before .before .before .before .before .before .before .before .before .before .before .before .before .before .accept-into .ensures))
-
 least-table-requires : tie.Need-least-table-requires
 least-table-requires c κs =
-    let long : length (c .before .before .before .before .before .before .before .before .before .before .before .before .before .before .before .before .before .before .before .before .before .accept-into .last .1 .1 .1 .1 .1 .1 .0) ≡ 64 = c .before .before .before .before .before .before .before .before .before .before .before .before .before .before .before .before .before .before .before .before .before .accept-into .kept .1 .1 .1 .1 .1 .1 .0 in
-    let s = c .before .before .before .before .before .before .before .before .before .before .before .before .before .before .before .before .before .before .before .before .before .before .before .before .before .before .before .before .before .before .args .graph .now in
-    let table = c .before .before .before .before .before .before .before .before .before .before .before .before .before .before .before .before .before .before .before .before .before .before .before .before .before .before .before .before .before .before .args .table .now in
-    let is = c .before .before .before .before .before .before .before .before .before .before .before .before .before .before .before .before .before .before .before .before .before .accept-into .ensures in
-    let checked = c .before .before .before .before .before .before .before .before .before .before .before .before .with-room .ensures in
-    let room = delays-room s is table checked (c .before .before .before .before .before .before .before .before .before .before .if1 .left) in
+    let s = c .before .before .before .before .before .before .before .before .before .before .before .before .before .before .before .before .before .before .before .before .before .before .before .before .before .before .args .graph .now in
+    let table = c .before .before .before .before .before .before .before .before .before .before .before .before .before .before .before .before .before .before .before .before .before .before .before .before .before .before .args .table .now in
+    let is = c .before .before .before .before .before .before .before .before .before .before .before .before .before .before .before .before .before .before .accept-into .ensures in
+    let checked = c .before .before .before .before .before .before .before .before .before .before .with-room .ensures in
+    let room = delays-room s is table checked (c .before .before .before .before .before .before .before .before .if1 .left) in
     let held = read-fronts s is (room .0) in
-    let well = well-formed s is (room .0) in
-    ((held .as-many-sinks, held .as-many-delays), ((omega (arith, few-tasks s is), omega (arith, room .1), omega (arith, long, length-take (c .before .before .before .before .before .before .before .before .before .before .before .before .before .before .before .before .before .before .before .before .before .accept-into .result .numbers .tasks - 0) (c .before .before .before .before .before .before .before .before .before .before .before .before .before .before .before .before .before .before .before .before .before .accept-into .last .1 .1 .1 .1 .1 .1 .0))), read-fit s is (room .0)))
+    ((held .as-many-sinks, held .as-many-delays), ((omega (arith, few-tasks s is), omega (arith, room .1)), read-fit s is (room .0)))
 
 told-requires-2 : tie.Need-told-requires-2
 told-requires-2 c κs = search needs
@@ -138,12 +120,12 @@ same-length c = search needs
 
 returns-2 : tie.Need-returns-2
 returns-2 c =
-    let s = c .before .before .before .before .before .before .before .before .before .before .before .before .before .before .before .before .before .before .before .before .before .before .before .before .before .before .before .before .before .before .before .before .before .before .args .graph .now in
-    let table = c .before .before .before .before .before .before .before .before .before .before .before .before .before .before .before .before .before .before .before .before .before .before .before .before .before .before .before .before .before .before .before .before .before .before .args .table .now in
-    let is = c .before .before .before .before .before .before .before .before .before .before .before .before .before .before .before .before .before .before .before .before .before .before .before .before .before .accept-into .ensures in
-    let checked = c .before .before .before .before .before .before .before .before .before .before .before .before .before .before .before .before .with-room .ensures in (
+    let s = c .before .before .before .before .before .before .before .before .before .before .before .before .before .before .before .before .before .before .before .before .before .before .before .before .before .before .before .before .before .before .args .graph .now in
+    let table = c .before .before .before .before .before .before .before .before .before .before .before .before .before .before .before .before .before .before .before .before .before .before .before .before .before .before .before .before .before .before .args .table .now in
+    let is = c .before .before .before .before .before .before .before .before .before .before .before .before .before .before .before .before .before .before .before .before .before .before .accept-into .ensures in
+    let checked = c .before .before .before .before .before .before .before .before .before .before .before .before .before .before .with-room .ensures in (
       delays-told s is table checked (c .told2 .ensures),
-      delays-written s is table checked (c .before .before .before .before .before .before .before .before .before .before .before .before .before .before .if1 .left) (c .before .before .before .least-table .ensures),
+      delays-written s is table checked (c .before .before .before .before .before .before .before .before .before .before .before .before .if1 .left) (c .before .before .before .least-table .ensures),
     )
 
 pub least-delays-spec : {M : Type 1} → statement M
@@ -155,7 +137,6 @@ least-delays-spec =
     slice-aggregate-accept-into-3
     slice-aggregate-accept-into-4
     slice-aggregate-accept-into-5
-    slice-aggregate-accept-into-6
     accept-into-requires
     cast-tasks
     mul-with-room
@@ -173,9 +154,6 @@ least-delays-spec =
     sub-least-table-3
     part-least-table-start-3
     part-least-table-end-3
-    sub-least-table-4
-    part-least-table-start-4
-    part-least-table-end-4
     least-table-requires
     told-requires-2
     same-length

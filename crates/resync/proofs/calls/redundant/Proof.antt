@@ -1,9 +1,9 @@
 -- `resync::calls::redundant` meets its contract: the fronts that were read hold the graph, so the marks are those of its redundant edges, and their ones are
 -- counted.
-use mathlib.Core.Path.{_≡_, refl, sym}
+use mathlib.Core.Path.{refl, sym}
 use Prim.Native.Nat.{_+_, _-_}
 use native.Mathlib.Omega.{arith}
-use lib.ListN.{length, length-take}
+use lib.ListN.{length-take}
 use Rattle.files.specs.Files.{graphOf}
 use Rattle.redundancy.specs.Redundancy.{HeldGraph}
 use Rattle.schedule.proofs.Fronts.{frontEdges}
@@ -30,12 +30,9 @@ slice-aggregate-accept-into-4 c = search needs
 slice-aggregate-accept-into-5 : tie.Need-slice-aggregate-accept-into-5
 slice-aggregate-accept-into-5 c = search needs
 
-slice-aggregate-accept-into-6 : tie.Need-slice-aggregate-accept-into-6
-slice-aggregate-accept-into-6 c = search needs
-
 accept-into-requires : tie.Need-accept-into-requires
 unfolding zeros
-accept-into-requires c κs = ((refl, refl, refl), (refl, refl, refl))
+accept-into-requires c κs = ((refl, refl), (refl, refl, refl))
 
 told-requires : tie.Need-told-requires
 told-requires c κs = search needs
@@ -45,7 +42,7 @@ no-marks-requires c κs = search needs
 
 returns : tie.Need-returns
 returns c =
-    redundant-refused (c .before .before .before .before .before .before .before .before .before .before .before .before .before .before .before .before .before .before .before .args .graph .now) (c .before .before .before .before .before .before .before .before .before .before .before .accept-into .ensures) (c .before .if1 .taken) (c .before .before .before .told .ensures)
+    redundant-refused (c .before .before .before .before .before .before .before .before .before .before .before .before .before .before .before .before .before .args .graph .now) (c .before .before .before .before .before .before .before .before .before .before .accept-into .ensures) (c .before .if1 .taken) (c .before .before .before .told .ensures)
     (c .no-marks .ensures)
 
 cast-tasks : tie.Need-cast-tasks
@@ -64,7 +61,7 @@ part-redundant-edges-start : tie.Need-part-redundant-edges-start
 part-redundant-edges-start c = search needs
 
 part-redundant-edges-end : tie.Need-part-redundant-edges-end
-part-redundant-edges-end c = lists-within (c .before .before .before .before .before .before .before .before .before .before .before .before .before .before .before .before .before .before .before .before .before .before .args .graph .now) (c .before .before .before .before .before .before .before .before .before .before .before .before .before .before .accept-into .ensures) (c .before .before .before .before .if1 .left) .source
+part-redundant-edges-end c = lists-within (c .before .before .before .before .before .before .before .before .before .before .before .before .before .before .before .before .before .before .before .before .args .graph .now) (c .before .before .before .before .before .before .before .before .before .before .before .before .before .accept-into .ensures) (c .before .before .before .before .if1 .left) .source
 
 sub-redundant-edges-2 : tie.Need-sub-redundant-edges-2
 sub-redundant-edges-2 c = search needs
@@ -73,7 +70,7 @@ part-redundant-edges-start-2 : tie.Need-part-redundant-edges-start-2
 part-redundant-edges-start-2 c = search needs
 
 part-redundant-edges-end-2 : tie.Need-part-redundant-edges-end-2
-part-redundant-edges-end-2 c = lists-within (c .before .before .before .before .before .before .before .before .before .before .before .before .before .before .before .before .before .before .before .before .before .before .before .before .args .graph .now) (c .before .before .before .before .before .before .before .before .before .before .before .before .before .before .before .before .accept-into .ensures) (c .before .before .before .before .before .before .if1 .left) .sink
+part-redundant-edges-end-2 c = lists-within (c .before .before .before .before .before .before .before .before .before .before .before .before .before .before .before .before .before .before .before .before .before .before .args .graph .now) (c .before .before .before .before .before .before .before .before .before .before .before .before .before .before .before .accept-into .ensures) (c .before .before .before .before .before .before .if1 .left) .sink
 
 sub-redundant-edges-3 : tie.Need-sub-redundant-edges-3
 sub-redundant-edges-3 c = search needs
@@ -82,30 +79,18 @@ part-redundant-edges-start-3 : tie.Need-part-redundant-edges-start-3
 part-redundant-edges-start-3 c = search needs
 
 part-redundant-edges-end-3 : tie.Need-part-redundant-edges-end-3
-part-redundant-edges-end-3 c = lists-within (c .before .before .before .before .before .before .before .before .before .before .before .before .before .before .before .before .before .before .before .before .before .before .before .before .before .before .args .graph .now) (c .before .before .before .before .before .before .before .before .before .before .before .before .before .before .before .before .before .before .accept-into .ensures) (c .before .before .before .before .before .before .before .before .if1 .left) .delay
-
-sub-redundant-edges-4 : tie.Need-sub-redundant-edges-4
-sub-redundant-edges-4 c = search needs
-
-part-redundant-edges-start-4 : tie.Need-part-redundant-edges-start-4
-part-redundant-edges-start-4 c = search needs
-
-part-redundant-edges-end-4 : tie.Need-part-redundant-edges-end-4
-part-redundant-edges-end-4 c =
-    let long : length (c .before .before .before .before .before .before .before .before .before .before .before .before .before .before .before .before .before .before .before .before .accept-into .last .1 .1 .1 .1 .1 .1 .0) ≡ 64 = c .before .before .before .before .before .before .before .before .before .before .before .before .before .before .before .before .before .before .before .before .accept-into .kept .1 .1 .1 .1 .1 .1 .0 in
-    omega (arith, long, few-tasks (c .before .before .before .before .before .before .before .before .before .before .before .before .before .before .before .before .before .before .before .before .before .before .before .before .before .before .before .before .args .graph .now) (c .before .before .before .before .before .before .before .before .before .before .before .before .before .before .before .before .before .before .before .before .accept-into .ensures))
+part-redundant-edges-end-3 c = lists-within (c .before .before .before .before .before .before .before .before .before .before .before .before .before .before .before .before .before .before .before .before .before .before .before .before .args .graph .now) (c .before .before .before .before .before .before .before .before .before .before .before .before .before .before .before .before .before .accept-into .ensures) (c .before .before .before .before .before .before .before .before .if1 .left) .delay
 
 redundant-edges-requires : tie.Need-redundant-edges-requires
 redundant-edges-requires c κs =
-    let long : length (c .before .before .before .before .before .before .before .before .before .before .before .before .before .before .before .before .before .before .before .before .before .accept-into .last .1 .1 .1 .1 .1 .1 .0) ≡ 64 = c .before .before .before .before .before .before .before .before .before .before .before .before .before .before .before .before .before .before .before .before .before .accept-into .kept .1 .1 .1 .1 .1 .1 .0 in
-    let s = c .before .before .before .before .before .before .before .before .before .before .before .before .before .before .before .before .before .before .before .before .before .before .before .before .before .before .before .before .before .args .graph .now in
-    let is = c .before .before .before .before .before .before .before .before .before .before .before .before .before .before .before .before .before .before .before .before .before .accept-into .ensures in
-    let none = c .before .before .before .before .before .before .before .before .before .before .before .if1 .left in
+    let s = c .before .before .before .before .before .before .before .before .before .before .before .before .before .before .before .before .before .before .before .before .before .before .before .before .before .args .graph .now in
+    let is = c .before .before .before .before .before .before .before .before .before .before .before .before .before .before .before .before .before .before .accept-into .ensures in
+    let none = c .before .before .before .before .before .before .before .before .before .if1 .left in
     let held = read-fronts s is none in
-    let lists = c .before .before .before .before .before .before .before .before .before .before .before .before .before .before .before .before .before .before .before .before .before .accept-into .last in
-    let reading = graphFrom (c .before .before .before .before .before .before .before .before .before .before .before .before .before .before .before .before .before .before .before .before .before .accept-into .result .numbers) (lists .1 .0) (lists .1 .1 .0) (lists .1 .1 .1 .0) (lists .1 .1 .1 .1 .0) (lists .1 .1 .1 .1 .1 .0) in (
+    let lists = c .before .before .before .before .before .before .before .before .before .before .before .before .before .before .before .before .before .before .accept-into .last in
+    let reading = graphFrom (c .before .before .before .before .before .before .before .before .before .before .before .before .before .before .before .before .before .before .accept-into .result .numbers) (lists .1 .0) (lists .1 .1 .0) (lists .1 .1 .1 .0) (lists .1 .1 .1 .1 .0) (lists .1 .1 .1 .1 .1 .0) in (
       (held .as-many-sinks, held .as-many-delays),
-      ((few-tasks s is, omega (arith, held .source-room, length-take (reading .tasks + reading .edges - 0) (reading .source)), omega (arith, long, length-take (c .before .before .before .before .before .before .before .before .before .before .before .before .before .before .before .before .before .before .before .before .before .accept-into .result .numbers .tasks - 0) (c .before .before .before .before .before .before .before .before .before .before .before .before .before .before .before .before .before .before .before .before .before .accept-into .last .1 .1 .1 .1 .1 .1 .0))), read-fit s is none),
+      ((few-tasks s is, omega (arith, held .source-room, length-take (reading .tasks + reading .edges - 0) (reading .source))), read-fit s is none),
     )
 
 count-requires : tie.Need-count-requires
@@ -113,13 +98,13 @@ count-requires c κs = search needs
 
 returns-2 : tie.Need-returns-2
 returns-2 c =
-    let s = c .before .before .before .before .before .before .before .before .before .before .before .before .before .before .before .before .before .before .before .before .before .before .before .before .before .before .before .before .before .before .before .args .graph .now in
-    let is = c .before .before .before .before .before .before .before .before .before .before .before .before .before .before .before .before .before .before .before .before .before .before .before .accept-into .ensures in
-    let none = c .before .before .before .before .before .before .before .before .before .before .before .before .before .if1 .left in
+    let s = c .before .before .before .before .before .before .before .before .before .before .before .before .before .before .before .before .before .before .before .before .before .before .before .before .before .before .before .args .graph .now in
+    let is = c .before .before .before .before .before .before .before .before .before .before .before .before .before .before .before .before .before .before .before .before .accept-into .ensures in
+    let none = c .before .before .before .before .before .before .before .before .before .before .before .if1 .left in
     let held = read-fronts s is none in
     let well = well-formed s is none in
-    let lists = c .before .before .before .before .before .before .before .before .before .before .before .before .before .before .before .before .before .before .before .before .before .before .before .accept-into .last in
-    let reading = graphFrom (c .before .before .before .before .before .before .before .before .before .before .before .before .before .before .before .before .before .before .before .before .before .before .before .accept-into .result .numbers) (lists .1 .0) (lists .1 .1 .0) (lists .1 .1 .1 .0) (lists .1 .1 .1 .1 .0) (lists .1 .1 .1 .1 .1 .0) in
+    let lists = c .before .before .before .before .before .before .before .before .before .before .before .before .before .before .before .before .before .before .before .before .accept-into .last in
+    let reading = graphFrom (c .before .before .before .before .before .before .before .before .before .before .before .before .before .before .before .before .before .before .before .before .accept-into .result .numbers) (lists .1 .0) (lists .1 .1 .0) (lists .1 .1 .1 .0) (lists .1 .1 .1 .1 .0) (lists .1 .1 .1 .1 .1 .0) in
     let graph : HeldGraph (graphOf s) (reading .tasks) (frontEdges reading) =
     record {
       as-many = sym (held .tasks-are);
@@ -127,7 +112,7 @@ returns-2 c =
       formed = well;
       no-zero-cycle = accepted s is none .1 .no-zero-cycle;
     } in
-    redundant-read s is none (c .before .before .before .before .before .before .before .before .before .before .before .before .before .before .before .told .ensures) (c .before .redundant-edges .ensures (graphOf s) graph) (c .count .ensures)
+    redundant-read s is none (c .before .before .before .before .before .before .before .before .before .before .before .before .before .told .ensures) (c .before .redundant-edges .ensures (graphOf s) graph) (c .count .ensures)
 
 pub redundant-spec : {M : Type 1} → statement M
 redundant-spec =
@@ -138,7 +123,6 @@ redundant-spec =
     slice-aggregate-accept-into-3
     slice-aggregate-accept-into-4
     slice-aggregate-accept-into-5
-    slice-aggregate-accept-into-6
     accept-into-requires
     told-requires
     no-marks-requires
@@ -155,9 +139,6 @@ redundant-spec =
     sub-redundant-edges-3
     part-redundant-edges-start-3
     part-redundant-edges-end-3
-    sub-redundant-edges-4
-    part-redundant-edges-start-4
-    part-redundant-edges-end-4
     redundant-edges-requires
     count-requires
     returns-2)

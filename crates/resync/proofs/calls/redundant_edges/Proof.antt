@@ -13,10 +13,10 @@ slice-aggregate-least-table : tie.Need-slice-aggregate-least-table
 slice-aggregate-least-table c = search needs
 
 least-table-requires : tie.Need-least-table-requires
-least-table-requires c κs = (c .before .before .before .before .before .pre .0, ((c .before .before .before .before .before .pre .1 .0 .0, omega (arith, product-small _ _ (c .before .before .before .before .before .pre .1 .0 .0) (c .before .before .before .before .before .pre .1 .0 .0), length-replicate {A = ℕ} 4096 0), c .before .before .before .before .before .pre .1 .0 .2), c .before .before .before .before .before .pre .1 .1))
+least-table-requires c κs = (c .before .before .before .before .pre .0, ((c .before .before .before .before .pre .1 .0 .0, omega (arith, product-small _ _ (c .before .before .before .before .pre .1 .0 .0) (c .before .before .before .before .pre .1 .0 .0), length-replicate {A = ℕ} 4096 0)), c .before .before .before .before .pre .1 .1))
 
 mul-redundant-marks : tie.Need-mul-redundant-marks
-mul-redundant-marks c = record { fits = omega (arith, product-small _ _ (c .before .before .before .before .before .before .before .pre .1 .0 .0) (c .before .before .before .before .before .before .before .pre .1 .0 .0)) }
+mul-redundant-marks c = record { fits = omega (arith, product-small _ _ (c .before .before .before .before .before .before .pre .1 .0 .0) (c .before .before .before .before .before .before .pre .1 .0 .0)) }
 
 sub-redundant-marks : tie.Need-sub-redundant-marks
 sub-redundant-marks c = search needs
@@ -25,10 +25,10 @@ part-redundant-marks-start : tie.Need-part-redundant-marks-start
 part-redundant-marks-start c = search needs
 
 part-redundant-marks-end : tie.Need-part-redundant-marks-end
-part-redundant-marks-end c = table-room (c .before .before .before .before .before .before .before .before .args .tasks) (edgesOf (c .before .before .before .before .before .before .before .before .args .source .now) (c .before .before .before .before .before .before .before .before .args .sink .now) (c .before .before .before .before .before .before .before .before .args .delay .now)) _ (c .before .before .least-table .ensures)
+part-redundant-marks-end c = table-room (c .before .before .before .before .before .before .before .args .tasks) (edgesOf (c .before .before .before .before .before .before .before .args .source .now) (c .before .before .before .before .before .before .before .args .sink .now) (c .before .before .before .before .before .before .before .args .delay .now)) _ (c .before .before .least-table .ensures)
 
 redundant-marks-requires : tie.Need-redundant-marks-requires
-redundant-marks-requires c κs = (c .before .before .before .before .before .before .before .before .before .pre .0, ((c .before .before .before .before .before .before .before .before .before .pre .1 .0 .0, c .before .before .before .before .before .before .before .before .before .pre .1 .0 .1), (c .before .before .before .before .before .before .before .before .before .pre .1 .1, table-front (c .before .before .before .before .before .before .before .before .before .args .tasks) (edgesOf (c .before .before .before .before .before .before .before .before .before .args .source .now) (c .before .before .before .before .before .before .before .before .before .args .sink .now) (c .before .before .before .before .before .before .before .before .before .args .delay .now)) _ (c .before .before .before .least-table .ensures))))
+redundant-marks-requires c κs = (c .before .before .before .before .before .before .before .before .pre .0, ((c .before .before .before .before .before .before .before .before .pre .1 .0 .0, c .before .before .before .before .before .before .before .before .pre .1 .0 .1), (c .before .before .before .before .before .before .before .before .pre .1 .1, table-front (c .before .before .before .before .before .before .before .before .args .tasks) (edgesOf (c .before .before .before .before .before .before .before .before .args .source .now) (c .before .before .before .before .before .before .before .before .args .sink .now) (c .before .before .before .before .before .before .before .before .args .delay .now)) _ (c .before .before .before .least-table .ensures))))
 
 returns : tie.Need-returns
 returns c = search needs

@@ -1,12 +1,10 @@
 -- `resync::planning::decide` meets its contract: refused, zeros and no edges; otherwise what `planned` gives for the graph that was read.
 use mathlib.Core.Path.{refl}
-use Prim.Native.Nat.{_-_}
 use native.Mathlib.Omega.{arith}
-use lib.ListN.{length-take}
 use Rattle.files.specs.Files.{graphOf}
 use Rattle.records.specs.Columns.{zeros}
 use Rattle.stages.proofs.Staged.{front-few}
-use Rattle.resync.proofs.Checked.{few-tasks, read-fronts, lists-within}
+use Rattle.resync.proofs.Checked.{read-fronts, lists-within}
 use Rattle.resync.proofs.PlanAnswers.{answer-refused, stage-refused, before, read-lent, answer-planned, stage-planned}
 use borrow.Author.Needs.{needs}
 use Rattle.resync.proofs.planning.decide.Statement.{statement}
@@ -27,12 +25,9 @@ slice-aggregate-accept-into-4 c = search needs
 slice-aggregate-accept-into-5 : tie.Need-slice-aggregate-accept-into-5
 slice-aggregate-accept-into-5 c = search needs
 
-slice-aggregate-accept-into-6 : tie.Need-slice-aggregate-accept-into-6
-slice-aggregate-accept-into-6 c = search needs
-
 accept-into-requires : tie.Need-accept-into-requires
 unfolding zeros
-accept-into-requires c κs = ((refl, refl, refl), (refl, refl, refl))
+accept-into-requires c κs = ((refl, refl), (refl, refl, refl))
 
 cast-with-room : tie.Need-cast-with-room
 cast-with-room c = search needs
@@ -48,9 +43,9 @@ blank-stage-requires c κs = search needs
 
 returns : tie.Need-returns
 returns c =
-    let args = c .before .before .before .before .before .before .before .before .before .before .before .before .before .before .before .before .before .before .before .before .before .args in
+    let args = c .before .before .before .before .before .before .before .before .before .before .before .before .before .before .before .before .before .before .before .args in
     let s = args .graph .now in
-    let is = c .before .before .before .before .before .before .before .before .before .before .before .before .before .accept-into .ensures in
+    let is = c .before .before .before .before .before .before .before .before .before .before .before .before .accept-into .ensures in
     let tested = c .before .before .before .before .with-room .ensures in
     let some = c .before .if1 .taken in
     (answer-refused s (args .room) is tested some (c .before .before .before .told .ensures), stage-refused s (args .room) is tested some (c .blank-stage .ensures .0) (c .blank-stage .ensures .1))
@@ -75,8 +70,8 @@ part-planned-start c = search needs
 
 part-planned-end : tie.Need-part-planned-end
 part-planned-end c =
-    let args = c .before .before .before .before .before .before .before .before .before .before .before .before .before .before .before .before .before .before .before .before .before .before .before .before .args in
-    let is = c .before .before .before .before .before .before .before .before .before .before .before .before .before .before .before .before .accept-into .ensures in
+    let args = c .before .before .before .before .before .before .before .before .before .before .before .before .before .before .before .before .before .before .before .before .before .before .args in
+    let is = c .before .before .before .before .before .before .before .before .before .before .before .before .before .before .before .accept-into .ensures in
     lists-within (args .graph .now) is (before (args .graph .now) (args .room) is (c .before .before .before .before .before .before .before .with-room .ensures) (c .before .before .before .before .if1 .left)) .source
 
 sub-planned-2 : tie.Need-sub-planned-2
@@ -87,8 +82,8 @@ part-planned-start-2 c = search needs
 
 part-planned-end-2 : tie.Need-part-planned-end-2
 part-planned-end-2 c =
-    let args = c .before .before .before .before .before .before .before .before .before .before .before .before .before .before .before .before .before .before .before .before .before .before .before .before .before .before .args in
-    let is = c .before .before .before .before .before .before .before .before .before .before .before .before .before .before .before .before .before .before .accept-into .ensures in
+    let args = c .before .before .before .before .before .before .before .before .before .before .before .before .before .before .before .before .before .before .before .before .before .before .before .before .args in
+    let is = c .before .before .before .before .before .before .before .before .before .before .before .before .before .before .before .before .before .accept-into .ensures in
     lists-within (args .graph .now) is (before (args .graph .now) (args .room) is (c .before .before .before .before .before .before .before .before .before .with-room .ensures) (c .before .before .before .before .before .before .if1 .left)) .sink
 
 sub-planned-3 : tie.Need-sub-planned-3
@@ -99,8 +94,8 @@ part-planned-start-3 c = search needs
 
 part-planned-end-3 : tie.Need-part-planned-end-3
 part-planned-end-3 c =
-    let args = c .before .before .before .before .before .before .before .before .before .before .before .before .before .before .before .before .before .before .before .before .before .before .before .before .before .before .before .before .args in
-    let is = c .before .before .before .before .before .before .before .before .before .before .before .before .before .before .before .before .before .before .before .before .accept-into .ensures in
+    let args = c .before .before .before .before .before .before .before .before .before .before .before .before .before .before .before .before .before .before .before .before .before .before .before .before .before .before .args in
+    let is = c .before .before .before .before .before .before .before .before .before .before .before .before .before .before .before .before .before .before .before .accept-into .ensures in
     lists-within (args .graph .now) is (before (args .graph .now) (args .room) is (c .before .before .before .before .before .before .before .before .before .before .before .with-room .ensures) (c .before .before .before .before .before .before .before .before .if1 .left)) .delay
 
 sub-planned-4 : tie.Need-sub-planned-4
@@ -111,20 +106,9 @@ part-planned-start-4 c = search needs
 
 part-planned-end-4 : tie.Need-part-planned-end-4
 part-planned-end-4 c =
-    let args = c .before .before .before .before .before .before .before .before .before .before .before .before .before .before .before .before .before .before .before .before .before .before .before .before .before .before .before .before .before .before .args in
-    let is = c .before .before .before .before .before .before .before .before .before .before .before .before .before .before .before .before .before .before .before .before .before .before .accept-into .ensures in
+    let args = c .before .before .before .before .before .before .before .before .before .before .before .before .before .before .before .before .before .before .before .before .before .before .before .before .before .before .before .before .args in
+    let is = c .before .before .before .before .before .before .before .before .before .before .before .before .before .before .before .before .before .before .before .before .before .accept-into .ensures in
     lists-within (args .graph .now) is (before (args .graph .now) (args .room) is (c .before .before .before .before .before .before .before .before .before .before .before .before .before .with-room .ensures) (c .before .before .before .before .before .before .before .before .before .before .if1 .left)) .time
-
-sub-planned-5 : tie.Need-sub-planned-5
-sub-planned-5 c = search needs
-
-part-planned-start-5 : tie.Need-part-planned-start-5
-part-planned-start-5 c = search needs
-
-part-planned-end-5 : tie.Need-part-planned-end-5
-part-planned-end-5 c =
-    let accepted = c .before .before .before .before .before .before .before .before .before .before .before .before .before .before .before .before .before .before .before .before .before .before .before .before .accept-into in
-    omega (arith, few-tasks (c .before .before .before .before .before .before .before .before .before .before .before .before .before .before .before .before .before .before .before .before .before .before .before .before .before .before .before .before .before .before .before .before .args .graph .now) (accepted .ensures), accepted .kept .1 .1 .1 .1 .1 .1 .0)
 
 slice-aggregate-planned : tie.Need-slice-aggregate-planned
 slice-aggregate-planned c = search needs
@@ -137,34 +121,33 @@ slice-aggregate-planned-3 c = search needs
 
 planned-requires : tie.Need-planned-requires
 planned-requires c κs =
-    let args = c .before .before .before .before .before .before .before .before .before .before .before .before .before .before .before .before .before .before .before .before .before .before .before .before .before .before .before .before .before .before .before .before .before .before .before .before .args in
+    let args = c .before .before .before .before .before .before .before .before .before .before .before .before .before .before .before .before .before .before .before .before .before .before .before .before .before .before .before .before .before .before .before .before .args in
     let s = args .graph .now in
-    let accepted = c .before .before .before .before .before .before .before .before .before .before .before .before .before .before .before .before .before .before .before .before .before .before .before .before .before .before .before .before .accept-into in
+    let accepted = c .before .before .before .before .before .before .before .before .before .before .before .before .before .before .before .before .before .before .before .before .before .before .before .before .before .accept-into in
     let is = accepted .ensures in
-    let tested = c .before .before .before .before .before .before .before .before .before .before .before .before .before .before .before .before .before .before .before .with-room .ensures in
-    let none = c .before .before .before .before .before .before .before .before .before .before .before .before .before .before .before .before .if1 .left in
-    let lists = read-fronts s is (before s (args .room) is tested none) in
-    let sequence = length-take (accepted .result .numbers .tasks - 0) (accepted .last .1 .1 .1 .1 .1 .1 .0) in (
+    let tested = c .before .before .before .before .before .before .before .before .before .before .before .before .before .before .before .before .before .with-room .ensures in
+    let none = c .before .before .before .before .before .before .before .before .before .before .before .before .before .before .if1 .left in
+    let lists = read-fronts s is (before s (args .room) is tested none) in (
       (lists .as-many-sinks, lists .as-many-delays),
-      ((graphOf s, read-lent s (args .room) is tested none), (omega (arith, sequence, few-tasks s is), (refl, refl, refl))),
+      ((graphOf s, read-lent s (args .room) is tested none), (refl, refl, refl)),
     )
 
 cast-length : tie.Need-cast-length
 cast-length c =
-    let args = c .before .before .before .before .before .before .before .before .before .before .before .before .before .before .before .before .before .before .before .before .before .before .before .before .before .before .before .before .before .before .before .before .before .before .before .before .before .before .before .before .before .args in
+    let args = c .before .before .before .before .before .before .before .before .before .before .before .before .before .before .before .before .before .before .before .before .before .before .before .before .before .before .before .before .before .before .before .before .before .before .before .before .before .args in
     let s = args .graph .now in
-    let lent = read-lent s (args .room) (c .before .before .before .before .before .before .before .before .before .before .before .before .before .before .before .before .before .before .before .before .before .before .before .before .before .before .before .before .before .before .before .before .before .accept-into .ensures) (c .before .before .before .before .before .before .before .before .before .before .before .before .before .before .before .before .before .before .before .before .before .before .before .before .with-room .ensures) (c .before .before .before .before .before .before .before .before .before .before .before .before .before .before .before .before .before .before .before .before .before .if1 .left) in
+    let lent = read-lent s (args .room) (c .before .before .before .before .before .before .before .before .before .before .before .before .before .before .before .before .before .before .before .before .before .before .before .before .before .before .before .before .before .before .accept-into .ensures) (c .before .before .before .before .before .before .before .before .before .before .before .before .before .before .before .before .before .before .before .before .before .before .with-room .ensures) (c .before .before .before .before .before .before .before .before .before .before .before .before .before .before .before .before .before .before .before .if1 .left) in
     omega (arith, front-few (c .before .before .before .before .planned .ensures (graphOf s) lent .held))
 
 returns-2 : tie.Need-returns-2
 returns-2 c =
-    let args = c .before .before .before .before .before .before .before .before .before .before .before .before .before .before .before .before .before .before .before .before .before .before .before .before .before .before .before .before .before .before .before .before .before .before .before .before .before .before .before .before .before .args in
+    let args = c .before .before .before .before .before .before .before .before .before .before .before .before .before .before .before .before .before .before .before .before .before .before .before .before .before .before .before .before .before .before .before .before .before .before .before .before .before .args in
     let s = args .graph .now in
-    let is = c .before .before .before .before .before .before .before .before .before .before .before .before .before .before .before .before .before .before .before .before .before .before .before .before .before .before .before .before .before .before .before .before .before .accept-into .ensures in
-    let tested = c .before .before .before .before .before .before .before .before .before .before .before .before .before .before .before .before .before .before .before .before .before .before .before .before .with-room .ensures in
-    let none = c .before .before .before .before .before .before .before .before .before .before .before .before .before .before .before .before .before .before .before .before .before .if1 .left in
+    let is = c .before .before .before .before .before .before .before .before .before .before .before .before .before .before .before .before .before .before .before .before .before .before .before .before .before .before .before .before .before .before .accept-into .ensures in
+    let tested = c .before .before .before .before .before .before .before .before .before .before .before .before .before .before .before .before .before .before .before .before .before .before .with-room .ensures in
+    let none = c .before .before .before .before .before .before .before .before .before .before .before .before .before .before .before .before .before .before .before .if1 .left in
     let found = c .before .before .before .before .planned .ensures (graphOf s) (read-lent s (args .room) is tested none) in
-    (answer-planned s (args .room) is tested none found (c .before .before .before .before .before .before .before .before .before .before .before .before .before .before .before .before .before .before .before .before .before .before .before .told .ensures), stage-planned s (args .room) is tested none found)
+    (answer-planned s (args .room) is tested none found (c .before .before .before .before .before .before .before .before .before .before .before .before .before .before .before .before .before .before .before .before .before .told .ensures), stage-planned s (args .room) is tested none found)
 
 pub decide-spec : {M : Type 1} → statement M
 decide-spec =
@@ -175,7 +158,6 @@ decide-spec =
     slice-aggregate-accept-into-3
     slice-aggregate-accept-into-4
     slice-aggregate-accept-into-5
-    slice-aggregate-accept-into-6
     accept-into-requires
     cast-with-room
     with-room-requires
@@ -198,9 +180,6 @@ decide-spec =
     sub-planned-4
     part-planned-start-4
     part-planned-end-4
-    sub-planned-5
-    part-planned-start-5
-    part-planned-end-5
     slice-aggregate-planned
     slice-aggregate-planned-2
     slice-aggregate-planned-3

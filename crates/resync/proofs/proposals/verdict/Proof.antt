@@ -22,20 +22,17 @@ slice-aggregate-accept-into-4 c = search needs
 slice-aggregate-accept-into-5 : tie.Need-slice-aggregate-accept-into-5
 slice-aggregate-accept-into-5 c = search needs
 
-slice-aggregate-accept-into-6 : tie.Need-slice-aggregate-accept-into-6
-slice-aggregate-accept-into-6 c = search needs
-
 accept-into-requires : tie.Need-accept-into-requires
 unfolding zeros
-accept-into-requires c κs = ((refl, refl, refl), (refl, refl, refl))
+accept-into-requires c κs = ((refl, refl), (refl, refl, refl))
 
 refused-requires : tie.Need-refused-requires
 refused-requires c κs = search needs
 
 returns : tie.Need-returns
 returns c =
-    let args = c .before .before .before .before .before .before .before .before .before .before .before .before .before .before .before .before .before .before .before .args in
-    graph-refused (args .graph .now) (args .proposal .now) (c .before .before .before .before .before .before .before .before .before .before .accept-into .ensures) (c .before .if1 .taken) (c .refused .ensures)
+    let args = c .before .before .before .before .before .before .before .before .before .before .before .before .before .before .before .before .before .args in
+    graph-refused (args .graph .now) (args .proposal .now) (c .before .before .before .before .before .before .before .before .before .accept-into .ensures) (c .before .if1 .taken) (c .refused .ensures)
 
 cast-read-proposal-into : tie.Need-cast-read-proposal-into
 cast-read-proposal-into c = search needs
@@ -58,10 +55,10 @@ refused-requires-2 c κs = search needs
 
 returns-2 : tie.Need-returns-2
 returns-2 c =
-    let args = c .before .before .before .before .before .before .before .before .before .before .before .before .before .before .before .before .before .before .before .before .before .before .before .before .before .before .before .before .before .before .before .args in
+    let args = c .before .before .before .before .before .before .before .before .before .before .before .before .before .before .before .before .before .before .before .before .before .before .before .before .before .before .before .before .before .args in
     let s = args .graph .now in
     let p = args .proposal .now in
-    let is = c .before .before .before .before .before .before .before .before .before .before .before .before .before .before .before .before .before .before .before .before .before .before .accept-into .ensures in
+    let is = c .before .before .before .before .before .before .before .before .before .before .before .before .before .before .before .before .before .before .before .before .before .accept-into .ensures in
     let passed = c .before .before .before .before .before .before .before .before .before .before .before .before .before .if1 .left in
     let read = c .before .before .before .before .before .before .before .read-proposal-into .ensures in
     proposal-refused s p is passed read (c .before .if2 .taken) (c .refused2 .ensures)
@@ -92,20 +89,20 @@ slice-aggregate-judge-8 c = search needs
 
 judge-requires : tie.Need-judge-requires
 judge-requires c κs =
-    let args = c .before .before .before .before .before .before .before .before .before .before .before .before .before .before .before .before .before .before .before .before .before .before .before .before .before .before .before .before .before .before .before .before .before .before .before .before .before .before .args in
+    let args = c .before .before .before .before .before .before .before .before .before .before .before .before .before .before .before .before .before .before .before .before .before .before .before .before .before .before .before .before .before .before .before .before .before .before .before .before .args in
     let s = args .graph .now in
     let p = args .proposal .now in
-    let is = c .before .before .before .before .before .before .before .before .before .before .before .before .before .before .before .before .before .before .before .before .before .before .before .before .before .before .before .before .before .accept-into .ensures in
+    let is = c .before .before .before .before .before .before .before .before .before .before .before .before .before .before .before .before .before .before .before .before .before .before .before .before .before .before .before .before .accept-into .ensures in
     let passed = c .before .before .before .before .before .before .before .before .before .before .before .before .before .before .before .before .before .before .before .before .if1 .left in
     let read = c .before .before .before .before .before .before .before .before .before .before .before .before .before .before .read-proposal-into .ensures in
     (graphOf s, proposalOf p, judgeable s p is passed read (c .before .before .before .before .before .before .before .before .if2 .left))
 
 weighed-requires : tie.Need-weighed-requires
 weighed-requires c κs =
-    let args = c .before .before .before .before .before .before .before .before .before .before .before .before .before .before .before .before .before .before .before .before .before .before .before .before .before .before .before .before .before .before .before .before .before .before .before .before .before .before .before .args in
+    let args = c .before .before .before .before .before .before .before .before .before .before .before .before .before .before .before .before .before .before .before .before .before .before .before .before .before .before .before .before .before .before .before .before .before .before .before .before .before .args in
     let s = args .graph .now in
     let p = args .proposal .now in
-    let is = c .before .before .before .before .before .before .before .before .before .before .before .before .before .before .before .before .before .before .before .before .before .before .before .before .before .before .before .before .before .before .accept-into .ensures in
+    let is = c .before .before .before .before .before .before .before .before .before .before .before .before .before .before .before .before .before .before .before .before .before .before .before .before .before .before .before .before .before .accept-into .ensures in
     let passed = c .before .before .before .before .before .before .before .before .before .before .before .before .before .before .before .before .before .before .before .before .before .if1 .left in
     let read = c .before .before .before .before .before .before .before .before .before .before .before .before .before .before .before .read-proposal-into .ensures in
     let given = judgeable s p is passed read (c .before .before .before .before .before .before .before .before .before .if2 .left) in
@@ -113,10 +110,10 @@ weighed-requires c κs =
 
 returns-3 : tie.Need-returns-3
 returns-3 c =
-    let args = c .before .before .before .before .before .before .before .before .before .before .before .before .before .before .before .before .before .before .before .before .before .before .before .before .before .before .before .before .before .before .before .before .before .before .before .before .before .before .before .before .args in
+    let args = c .before .before .before .before .before .before .before .before .before .before .before .before .before .before .before .before .before .before .before .before .before .before .before .before .before .before .before .before .before .before .before .before .before .before .before .before .before .before .args in
     let s = args .graph .now in
     let p = args .proposal .now in
-    let is = c .before .before .before .before .before .before .before .before .before .before .before .before .before .before .before .before .before .before .before .before .before .before .before .before .before .before .before .before .before .before .before .accept-into .ensures in
+    let is = c .before .before .before .before .before .before .before .before .before .before .before .before .before .before .before .before .before .before .before .before .before .before .before .before .before .before .before .before .before .before .accept-into .ensures in
     let passed = c .before .before .before .before .before .before .before .before .before .before .before .before .before .before .before .before .before .before .before .before .before .before .if1 .left in
     let read = c .before .before .before .before .before .before .before .before .before .before .before .before .before .before .before .before .read-proposal-into .ensures in
     let unread = c .before .before .before .before .before .before .before .before .before .before .if2 .left in
@@ -133,7 +130,6 @@ verdict-spec =
     slice-aggregate-accept-into-3
     slice-aggregate-accept-into-4
     slice-aggregate-accept-into-5
-    slice-aggregate-accept-into-6
     accept-into-requires
     refused-requires
     returns

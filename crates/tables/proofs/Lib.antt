@@ -1,3 +1,0 @@
--- The proofs of this crate alone.
-mod Rounds
-mod Swept
