@@ -12,11 +12,11 @@ use Rattle.files.specs.Files.{graphOf}
 use Rattle.resync.specs.Calls.{outcome, tasksOf, delaysRefusal, delaysAfter}
 use Rattle.claims.specs.Demand2.{delayIn}
 
--- what `delays::fill_row` leaves of a list: the contract of what makes row a of the table of a file's graph
+-- what `delays::fill_row` leaves of a list, by its contract: row a of the table of a file's graph made in its part
 abbrev pub rowMade : List ℕ → ℕ → List ℕ → List ℕ
 rowMade s a table = withRow (tasksOf s) (edges (graphOf s)) a table
 
--- what the loop of `delays::least_table` has left of a list after the row of task a; before any row, after that of task `tasksOf s`, which there is not
+-- what the loop of `delays::least_table` has left of a list, by its invariant, once the rows of the last task down to task a are made; at `tasksOf s` none is
 abbrev pub madeFrom : List ℕ → ℕ → List ℕ → List ℕ
 madeFrom s a table = rowsFrom (tasksOf s) (edges (graphOf s)) a table
 

@@ -1,8 +1,8 @@
 -- A row lowered by scans. An entry that is lowered is the delay of a path, since it is that of a way and what is known after it; where none has fallen that
 -- was not scanned no edge betters an entry, and so no path does, by induction along it. What was seen falls with each scan.
-use mathlib.Core.Path.{_≡_, refl, sym, ap, _∙_, subst}
+use mathlib.Core.Path.{_≡_, sym, ap, _∙_, subst}
 use mathlib.Core.Logic.{_⊎_, inl, inr}
-use mathlib.Core.Bool.{Bool, true, false, _&&_, true≢false, cond}
+use mathlib.Core.Bool.{Bool, true, cond}
 use mathlib.Core.List.{List, [], _∷_}
 use mathlib.Core.Option.{Option, none, some}
 use Prim.Native.Nat.{ℕ, zero, suc, _+_, _*_, _≤_, _<_, min}
@@ -155,10 +155,6 @@ module _ {row seen : List ℕ} {u : ℕ} (inner : u < 64) (row-low : Low row) (s
             go : (64 ≤ i) ⊎ (i < 64) → getD after i 0 ≤ getD (set seen u way) i 0
             go (inl past) = let none = List·getD-eq-default after 0 {n = i} (omega (arith, also .low .size)) in omega arith
             go (inr l) = omega (arith, also .each i l)
-
-pub both : (a b : Bool) → a && b ≡ true → (a ≡ true) × (b ≡ true)
-both true b q = (refl, q)
-both false b q = absurd (true≢false (sym q))
 
 -- one task more that has not fallen since it was scanned
 pub level-more :

@@ -77,15 +77,11 @@ pub record Scanned (known : List ℕ) (done u : ℕ) (row seen row-after seen-af
   pub less : sum seen-after < sum seen
   pub ways : (n : ℕ) (es : List Edge) (a : ℕ) → u < n → Known n es done known → Seen es a row seen → Seen es a row-after seen-after
 
--- no task below n, and not below a number, has an entry that has fallen below what was seen of it
-abbrev pub NoneFell : ℕ → ℕ → List ℕ → List ℕ → Type 0
-NoneFell n from row seen = (v : ℕ) → from ≤ v → v < n → getD seen v 0 ≤ getD row v 0
-
 -- u is a task below n, and not below a number, whose entry has fallen below what was seen of it; or it is n, and there is none
 pub record Unscanned (n from : ℕ) (row seen : List ℕ) (u : ℕ) : Type 0 where
   pub below : u ≤ n
   pub one : u < n → getD row u 0 < getD seen u 0
-  pub none : n ≤ u → NoneFell n from row seen
+  pub none : n ≤ u → (v : ℕ) → from ≤ v → v < n → getD seen v 0 ≤ getD row v 0
 
 -- an entry as a finished row has it
 unfoldable pub widened : ℕ → ℕ

@@ -12,7 +12,7 @@ ghost use Rattle.model.specs.Compute.{present, leastDelay};
 ghost use Rattle.records.specs.Columns.{edgesOf};
 ghost use Rattle.reach.specs.Reach.{bit};
 ghost use Rattle.delays.specs.Delays.{delayRow, delayTable, withRow, Fit};
-ghost use Rattle.delays.specs.Rows.{RowCopied, Low, StepsOf, Known, Relaxed, Scanned, NoneFell, Unscanned, widened};
+ghost use Rattle.delays.specs.Rows.{RowCopied, Low, StepsOf, Known, Relaxed, Scanned, Unscanned, widened};
 use reach::has_bit;
 use reach::with_bit;
 
@@ -123,28 +123,11 @@ fn unscanned_from<'a>(row: &'a [u16], seen: &'a [u16], from: usize, tasks: usize
     tasks
 }
 
-// Whether there is no such task: all are looked at, many at once.
-fn all_scanned<'a>(row: &'a [u16], seen: &'a [u16], tasks: usize) -> bool
-    requires { ⌜ (tasks ≤ length (now row)) × (tasks ≤ length (now seen)) ⌝ }
-    ensures { λ r. ⌜ (r ≡ true → NoneFell tasks 0 (now (row .entry)) (now (seen .entry))) ⌝ }
-{
-    let mut all = true;
-    let mut u = 0;
-    while u < tasks {
-        all = all & (seen[u] <= row[u]);
-        u += 1;
-    }
-    all
-}
-
 // The next such task, round the end.
 fn next_unscanned<'a>(row: &'a [u16], seen: &'a [u16], from: usize, tasks: usize) -> usize
     requires { ⌜ (from ≤ tasks) × (tasks ≤ length (now row)) × (tasks ≤ length (now seen)) ⌝ }
     ensures { λ r. ⌜ Unscanned tasks 0 (now (row .entry)) (now (seen .entry)) r ⌝ }
 {
-    if all_scanned(row, seen, tasks) {
-        return tasks;
-    }
     let u = unscanned_from(row, seen, from, tasks);
     if u < tasks {
         return u;

@@ -92,11 +92,6 @@ impl Known {
 /// The next of so many tasks after one, round the end, that has less in a row than in the other.
 #[inline(always)]
 fn next_below(row: &Row, other: &Row, tasks: usize, after: usize) -> Option<usize> {
-    // All at once, which is quicker where there is none.
-    let pairs = row[..tasks].iter().zip(&other[..tasks]);
-    if pairs.fold(true, |none, (one, other)| none & (one >= other)) {
-        return None;
-    }
     let below = |&task: &usize| row[task] < other[task];
     (after + 1..tasks)
         .find(below)
