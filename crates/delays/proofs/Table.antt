@@ -46,6 +46,10 @@ table-room n es past written =
 
 -- ── Rows made one by one ──
 
+-- a row ends within the table
+pub row-end : {n a : ℕ} → a < n → a * n + n ≤ n * n
+row-end {n} {a} inner = let whole : suc a * n ≤ n * n = mul-le-mul-right n inner in omega (arith, whole, suc-mul a n)
+
 module _ (n : ℕ) (es : List Edge) (table : List ℕ) where
   -- before any row
   pub rows-none : rowsFrom n es n table ≡ table
@@ -77,23 +81,23 @@ module _ (n : ℕ) (es : List Edge) (table : List ℕ) where
       rows-other i (inr l) = part-after (a * n) (n * n) (λ x. getD (delayTable n es) (a * n + x) 0) table before room i l
 
     module _ (a : ℕ) (inner : a < n) where
-      end : a * n + n ≤ n * n
-      end = let whole : suc a * n ≤ n * n = mul-le-mul-right n inner in omega (arith, whole, suc-mul a n)
+      inside : a * n + n ≤ length table
+      inside = omega (arith, row-end inner, room)
 
       pub row-size : length (withRow n es a table) ≡ length table
       unfolding withRow
-      row-size = part-length (a * n) (a * n + n) (λ b. entry (leastDelay n es a b)) table (omega arith) (omega (arith, end, room))
+      row-size = part-length (a * n) (a * n + n) (λ b. entry (leastDelay n es a b)) table (omega arith) inside
 
       pub row-made : (b : ℕ) → b < n → getD (withRow n es a table) (a * n + b) 0 ≡ getD (delayTable n es) (a * n + b) 0
       unfolding withRow
       row-made b l =
-          part-inside (a * n) (a * n + n) (λ b. entry (leastDelay n es a b)) table (omega arith) (omega (arith, end, room)) b (omega arith) ∙
+          part-inside (a * n) (a * n + n) (λ b. entry (leastDelay n es a b)) table (omega arith) inside b (omega arith) ∙
           sym (table-at n es a b inner l)
 
       pub row-other : (i : ℕ) → (i < a * n) ⊎ (a * n + n ≤ i) → getD (withRow n es a table) i 0 ≡ getD table i 0
       unfolding withRow
-      row-other i (inl l) = part-before (a * n) (a * n + n) (λ b. entry (leastDelay n es a b)) table (omega arith) (omega (arith, end, room)) i l
-      row-other i (inr l) = part-after (a * n) (a * n + n) (λ b. entry (leastDelay n es a b)) table (omega arith) (omega (arith, end, room)) i l
+      row-other i (inl l) = part-before (a * n) (a * n + n) (λ b. entry (leastDelay n es a b)) table (omega arith) inside i l
+      row-other i (inr l) = part-after (a * n) (a * n + n) (λ b. entry (leastDelay n es a b)) table (omega arith) inside i l
 
 -- one row more
 pub rows-next :

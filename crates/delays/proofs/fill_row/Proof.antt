@@ -5,7 +5,8 @@ use native.Mathlib.Omega.{arith}
 use borrow.Author.Needs.{needs}
 use Rattle.records.proofs.Rows.{product-small}
 use Rattle.delays.specs.Rows.{Known}
-use Rattle.delays.proofs.Making.{row-end, part-size, part-known, list-made}
+use Rattle.delays.proofs.Table.{row-end}
+use Rattle.delays.proofs.Making.{part-size, part-known, list-made}
 use Rattle.delays.proofs.fill_row.Statement.{statement}
 use Rattle.delays.proofs.fill_row.Tie as tie
 
