@@ -14,16 +14,16 @@ use Rattle.files.proofs.First.{passes, stops, number-same, zero-or-not, last-an
 use Rattle.files.proofs.Numbers.{proposal-numbers}
 use Rattle.readings.proofs.Passed.{head-passed, tail-passed}
 use Rattle.readings.proofs.Accepted.{proposal-formed}
-use Rattle.schedule.specs.Schedule.{acceptanceRefusal}
-use Rattle.schedule.proofs.Judged.{accepted-iff-passed}
-use Rattle.verdicts.specs.Verdicts.{judgedRefusal}
-use Rattle.verdicts.specs.Theorems.{Sentenced}
-use Rattle.verdicts.proofs.Meanings.{sentenced-iff}
-use Rattle.resync.specs.declared.ProposalVerdict.{ProposalVerdict}
-use Rattle.resync.specs.Calls.{tasksOf}
-use Rattle.resync.specs.Theorems.{AcceptedFile}
-use Rattle.resync.specs.Verdict.{VerdictAnswer, verdictOf, verdictRefusal, toldLate}
-use Rattle.resync.proofs.Given.{up-to-12}
+use Rattle.acceptance.specs.Acceptance.{acceptanceRefusal}
+use Rattle.acceptance.proofs.Judged.{accepted-iff-passed}
+use Rattle.judgement.specs.Judgement.{judgedRefusal}
+use Rattle.judgement.specs.Theorems.{Sentenced}
+use Rattle.judgement.proofs.Meanings.{sentenced-iff}
+use Rattle.acceptance.specs.Outcomes.{tasksOf}
+use Rattle.acceptance.specs.Theorems.{AcceptedFile}
+use Rattle.acceptance.proofs.Rooms.{up-to-12}
+use Rattle.verdict.specs.Verdict.{VerdictAnswer, verdictOf, verdictRefusal, toldLate}
+use Rattle.verdict.specs.declared.ProposalVerdict.{ProposalVerdict}
 use Rattle.claims.specs.Demand3.{WellFormedFile}
 
 -- what the proposed edges get, with the answer's place

@@ -22,18 +22,19 @@ use Rattle.files.specs.Files.{graphOf, proposalOf, edgeIn}
 use Rattle.files.proofs.First.{zero-or-not, check-passes}
 use Rattle.readings.specs.declared.ProposalReading.{ProposalReading}
 use Rattle.readings.specs.Working.{proposalReading}
-use Rattle.schedule.specs.declared.Acceptance.{Acceptance}
-use Rattle.schedule.specs.Schedule.{acceptance}
-use Rattle.verdicts.specs.declared.Judgement.{Judgement}
-use Rattle.verdicts.specs.Verdicts.{someOnCycle, judgedRefusal, timed, judgement, OpenPlace}
-use Rattle.verdicts.specs.Theorems.{Sentenced, cycle-made, order-lost, late, accepted}
-use Rattle.verdicts.proofs.Chain.{stops-13}
-use Rattle.verdicts.proofs.Tested.{some-on-cycle}
-use Rattle.verdicts.proofs.Meanings.{sentenced-iff}
-use Rattle.resync.specs.declared.ProposalVerdict.{ProposalVerdict}
-use Rattle.resync.specs.Calls.{outcome}
-use Rattle.resync.specs.Verdict.{VerdictAnswer, margin, toldLate}
-use Rattle.resync.proofs.Verdicts.{graph-refused, proposal-refused, judgeable, judged-answer}
+use Rattle.acceptance.specs.declared.Acceptance.{Acceptance}
+use Rattle.acceptance.specs.Acceptance.{acceptance}
+use Rattle.judgement.specs.declared.Judgement.{Judgement}
+use Rattle.judgement.specs.Judgement.{someOnCycle, judgedRefusal, timed, judgement, OpenPlace}
+use Rattle.judgement.specs.Theorems.{Sentenced, cycle-made, order-lost, late, accepted}
+use Rattle.judgement.proofs.Chain.{stops-13}
+use Rattle.judgement.proofs.Tested.{some-on-cycle}
+use Rattle.judgement.proofs.Meanings.{sentenced-iff}
+use Rattle.acceptance.specs.Outcomes.{outcome}
+use Rattle.acceptance.proofs.AcceptedFiles.{accepted as file-accepted}
+use Rattle.verdict.proofs.Answers.{graph-refused, proposal-refused, edges-formed, judged-answer}
+use Rattle.verdict.specs.Verdict.{VerdictAnswer, margin, toldLate}
+use Rattle.verdict.specs.declared.ProposalVerdict.{ProposalVerdict}
 
 place-of : {e : Edge} {es : List Edge} → e ∈ es → (j : ℕ) × (j < length es) × (edgeIn es j ≡ e)
 unfolding edgeIn
@@ -117,8 +118,7 @@ answered s p = at-graph (zero-or-not (graph .refusal .number))
     at-proposal :
         graph .refusal .number ≡ 0 → (proposal .refusal .number ≡ 0) ⊎ (proposal .refusal .number ≢ 0) → (r : ProposalVerdict) × VerdictAnswer s p r
     at-proposal passed (inl read) =
-        let fit = judgeable s p refl passed refl read in
-        let j = judged-so (graphOf s) (proposalOf p) (fit .accepted) (fit .formed) in
+        let j = judged-so (graphOf s) (proposalOf p) (file-accepted s refl passed .1) (edges-formed s p refl passed refl read) in
         (weighed (graph .reading .bound) (j .0), judged-answer s p refl passed refl read (j .1) (j .2) refl refl refl)
     at-proposal passed (inr some) = (refused (proposal .refusal), proposal-refused s p refl passed refl some (refl, refl, refl))
 

@@ -30,17 +30,23 @@ use Rattle.files.proofs.First.{number-same, if-passed}
 use Rattle.delays.specs.Delays.{entry, delayRow, delayTable}
 use Rattle.starts.specs.Starts.{turnRow, turnRows}
 use Rattle.stages.specs.Stages.{writtenInto}
-use Rattle.schedule.specs.Schedule.{scheduleChecks, scheduleRefusal, acceptanceRefusal}
-use Rattle.schedule.proofs.Judged.{accepted-iff-passed}
-use Rattle.verdicts.specs.Verdicts.{someOnCycle, lostRefusal, judgedRefusal, OpenPlace}
-use Rattle.resync.specs.declared.ProposalVerdict.{ProposalVerdict}
-use Rattle.resync.specs.Calls.{outcome, tasksOf, tableOf, delaysRefusal, delaysAfter, noMarks, redundantOf, startsOf, timetableRefusal, timetableAfter}
-use Rattle.resync.specs.Plan.{planRefusal, planAnswerOf, planAfter}
-use Rattle.resync.proofs.Planned.{plan-given, plan-plain}
-use Rattle.resync.specs.Theorems.{AcceptedFile}
-use Rattle.resync.specs.Verdict.{VerdictAnswer, verdictOf, verdictRefusal, toldLate, countedMargin, margin, resultLatency}
-use Rattle.resync.proofs.Meanings.{delays-given, timetable-given, success-plain}
+use Rattle.acceptance.specs.Acceptance.{scheduleChecks, scheduleRefusal, acceptanceRefusal}
+use Rattle.acceptance.proofs.Judged.{accepted-iff-passed}
+use Rattle.judgement.specs.Judgement.{someOnCycle, lostRefusal, judgedRefusal, OpenPlace}
+use Rattle.acceptance.specs.Outcomes.{outcome, tasksOf}
+use Rattle.acceptance.specs.Theorems.{AcceptedFile}
+use Rattle.least_delays.proofs.Meanings.{delays-given}
+use Rattle.least_delays.specs.LeastDelays.{tableOf, delaysRefusal, delaysAfter}
+use Rattle.redundant.specs.Redundant.{noMarks, redundantOf}
+use Rattle.timetable.proofs.Given.{timetable-given}
+use Rattle.timetable.specs.Timetable.{startsOf, timetableRefusal, timetableAfter}
+use Rattle.verdict.specs.Verdict.{VerdictAnswer, verdictOf, verdictRefusal, toldLate, countedMargin, margin, resultLatency}
+use Rattle.verdict.specs.declared.ProposalVerdict.{ProposalVerdict}
+use Rattle.plan.proofs.Meanings.{plan-given, plan-plain}
+use Rattle.plan.specs.Plan.{planRefusal, planAnswerOf, planAfter}
 use Rattle.claims.specs.Cases.{Case, delays, first-word, starts, plan, verdict, on-cycle, accepted, refused, Holds, deskFile, desk, exampleProposal, emptyProposal, firstOnly, delayed, looped, cases, AllHold}
+use Rattle.least_delays.proofs.Meanings.{delays-plain}
+use Rattle.timetable.proofs.Given.{timetable-plain}
 
 -- ── The graph files ──
 
@@ -117,7 +123,7 @@ delays-hold : Holds (delays desk (1 ∷ 0 ∷ 0 ∷ 0 ∷ 1 ∷ 1 ∷ 1 ∷ 0 �
 unfolding outcome delaysAfter
 delays-hold lent room =
     let none = delays-given desk (length lent) .1 (desk-accepted, subst (λ (n : ℕ). n * n ≤ length lent) (sym four-tasks) room) in (
-      ap outcome (success-plain desk 0 (length lent) .1 none),
+      ap outcome (delays-plain desk (length lent) none),
       if-passed (delaysRefusal desk (length lent) .number) (tableOf desk ++ drop (tasksOf desk * tasksOf desk) lent) lent none ∙
           (λ i. desk-table i ++ drop (four-tasks i * four-tasks i) lent),
     )
@@ -127,7 +133,7 @@ unfolding outcome timetableAfter
 starts-hold lent room =
     let enough : tasksOf desk * 2 ≤ length lent = subst (λ (n : ℕ). n * 2 ≤ length lent) (sym four-tasks) room in
     let none = timetable-given desk 2 (length lent) .1 (omega arith, omega arith, desk-accepted, enough) in (
-      ap outcome (success-plain desk 2 (length lent) .2 none),
+      ap outcome (timetable-plain desk 2 (length lent) none),
       if-passed (timetableRefusal desk 2 (length lent) .number) (startsOf desk 2 ++ drop (tasksOf desk * 2) lent) lent none ∙
           (λ i. desk-starts i ++ drop (four-tasks i * 2) lent),
     )

@@ -1,5 +1,5 @@
--- Demand 1 is met: each call's refusals follow its sequence, a sequence says one thing only, and the other fields and the lent lists are what resync
--- proves of them.
+-- Demand 1 is met: each call's refusals follow its sequence, a sequence says one thing only, and the other fields and the lent lists are what the calls' crates
+-- prove of them.
 use mathlib.Core.Path.{_≡_, refl, ap, sym, _∙_, subst}
 use mathlib.Core.Logic.{_≢_}
 use mathlib.Core.List.{List}
@@ -11,18 +11,28 @@ use Rattle.files.specs.declared.Refusal.{Refusal}
 use Rattle.files.specs.Files.{taskCount, edgeCount, graphRefusal, proposalRefusal}
 use Rattle.readings.specs.Working.{graphReading, proposalReading}
 use Rattle.readings.proofs.Held.{graph-refusal-given, proposal-refusal-given}
-use Rattle.schedule.specs.Schedule.{acceptanceRefusal}
-use Rattle.resync.specs.declared.Outcome.{Outcome}
-use Rattle.resync.specs.Calls.{outcome, figuresOf, redundantOf, delaysRefusal, timetableRefusal}
-use Rattle.resync.specs.Plan.{planRefusal, planAnswerOf}
-use Rattle.resync.proofs.Planned.{plan-plain, plan-refused, plan-kept}
-use Rattle.resync.proofs.Meanings.{figures-refused, redundant-refused, success-plain, delays-kept, timetable-kept}
+use Rattle.acceptance.specs.Acceptance.{acceptanceRefusal}
+use Rattle.acceptance.specs.declared.Outcome.{Outcome}
+use Rattle.acceptance.specs.Outcomes.{outcome}
+use Rattle.acceptance.proofs.Rooms.{success-plain}
+use Rattle.figures.proofs.Meanings.{figures-refused}
+use Rattle.figures.specs.Figures.{figuresOf}
+use Rattle.least_delays.proofs.Lists.{delays-kept}
+use Rattle.least_delays.specs.LeastDelays.{delaysRefusal}
+use Rattle.redundant.proofs.Meanings.{redundant-refused}
+use Rattle.redundant.specs.Redundant.{redundantOf}
+use Rattle.timetable.proofs.Lists.{timetable-kept}
+use Rattle.timetable.specs.Timetable.{timetableRefusal}
+use Rattle.plan.proofs.Meanings.{plan-plain, plan-refused, plan-kept}
+use Rattle.plan.specs.Plan.{planRefusal, planAnswerOf}
 use Rattle.claims.specs.Demand1.{Sequence, Says, _when_, graphFileChecks, proposalFileChecks, graphChecks, delaysChecks, timetableChecks, planChecks, verdictChecks, Obeys, Demand1}
 use Rattle.claims.proofs.Sequences.{Follows, says, All, all-both, OnePlace, settled, says-one}
 use Rattle.claims.proofs.Followed.{graph-file-follows, graph-file-earlier, proposal-file-follows, proposal-file-earlier, graph-follows, graph-earlier, delays-follow, timetable-follows, plan-follows}
 use Rattle.claims.proofs.Passed.{graph-file-plain, proposal-file-plain}
 use Rattle.claims.proofs.Answered.{answered}
 use Rattle.claims.proofs.Verdicts.{verdict-settled, verdict-says, place-passed, verdict-unnamed, verdict-plain, verdict-late}
+use Rattle.least_delays.proofs.Meanings.{delays-plain}
+use Rattle.timetable.proofs.Given.{timetable-plain}
 
 module _ (checks : Sequence) (one-place : All OnePlace checks) where
   obeys :
@@ -63,13 +73,13 @@ plan-settled s room = all-both OnePlace (graphChecks s) (16 when room < edgeCoun
 
 -- no place where nothing is refused
 graph-nowhere : (s : List ℕ) → acceptanceRefusal s .number ≡ 0 → acceptanceRefusal s .place ≡ 0
-graph-nowhere s none = ap (λ (r : Refusal). r .place) (success-plain s 0 0 .0 none)
+graph-nowhere s none = ap (λ (r : Refusal). r .place) (success-plain s none)
 
 delays-nowhere : (s : List ℕ) (room : ℕ) → delaysRefusal s room .number ≡ 0 → delaysRefusal s room .place ≡ 0
-delays-nowhere s room none = ap (λ (r : Refusal). r .place) (success-plain s 0 room .1 none)
+delays-nowhere s room none = ap (λ (r : Refusal). r .place) (delays-plain s room none)
 
 timetable-nowhere : (s : List ℕ) (turns room : ℕ) → timetableRefusal s turns room .number ≡ 0 → timetableRefusal s turns room .place ≡ 0
-timetable-nowhere s turns room none = ap (λ (r : Refusal). r .place) (success-plain s turns room .2 none)
+timetable-nowhere s turns room none = ap (λ (r : Refusal). r .place) (timetable-plain s turns room none)
 
 plan-obeys : (s : List ℕ) (room : ℕ) → Obeys (planChecks s room) (planAnswerOf s room .outcome)
 unfolding planAnswerOf

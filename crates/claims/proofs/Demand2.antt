@@ -1,5 +1,5 @@
--- Demand 2, proved: each number is given by a function of the model whose meaning the model proves, in the place that the rows give it (resync's
--- Meanings). Here those meanings are read off the answers themselves: numbers in lists, bits of words, and of a verdict its latency and margin.
+-- Demand 2, proved: each number is given by a function of the model whose meaning the model proves, in the place that the rows give it (the
+-- Meanings of the calls' crates). Here those meanings are read off the answers themselves: numbers in lists, bits of words, and of a verdict its latency and margin.
 use mathlib.Core.Path.{_≡_, refl, sym, ap, _∙_, subst}
 use mathlib.Core.Logic.{_↔_, _⊎_, inl, inr, _≢_}
 use mathlib.Core.Bool.{Bool, cond, not}
@@ -35,16 +35,25 @@ use Rattle.marks.specs.declared.Marks.{Marks}
 use Rattle.marks.specs.Marks.{bitOf, markAt, setBelow, placesBelow, placesOf}
 use Rattle.marks.proofs.Listed.{places-counted, places-ascend}
 use Rattle.delays.specs.Delays.{entry}
-use Rattle.verdicts.specs.Theorems.{Sentenced, cycle-made, order-lost, late, accepted}
-use Rattle.verdicts.proofs.Meanings.{result-latency}
-use Rattle.resync.specs.declared.ProposalVerdict.{ProposalVerdict}
-use Rattle.resync.specs.Calls.{outcome, tasksOf, delaysAfter, redundantOf, timetableAfter}
-use Rattle.resync.specs.Theorems.{AcceptedFile}
-use Rattle.resync.specs.Verdict.{VerdictAnswer, verdictOf, verdictRefusal, toldLate, countedMargin, margin, resultLatency}
-use Rattle.resync.proofs.Meanings.{figures-given, redundant-given, delays-given, timetable-given, figures-mean, figures-run, delays-mean, delays-small, redundant-mean, redundant-counted, delays-past, timetable-past, redundant-listed, timetable-mean, timetable-runs}
+use Rattle.judgement.specs.Theorems.{Sentenced, cycle-made, order-lost, late, accepted}
+use Rattle.judgement.proofs.Meanings.{result-latency}
+use Rattle.acceptance.specs.Outcomes.{outcome, tasksOf}
+use Rattle.acceptance.specs.Theorems.{AcceptedFile}
+use Rattle.figures.proofs.Meanings.{figures-given, figures-mean, figures-run}
+use Rattle.least_delays.proofs.Lists.{delays-past}
+use Rattle.least_delays.proofs.Meanings.{delays-given, delays-mean, delays-small}
+use Rattle.least_delays.specs.LeastDelays.{delaysAfter}
+use Rattle.redundant.proofs.Meanings.{redundant-given, redundant-mean, redundant-counted, redundant-listed}
+use Rattle.redundant.specs.Redundant.{redundantOf}
+use Rattle.timetable.proofs.Given.{timetable-given}
+use Rattle.timetable.proofs.Lists.{timetable-past}
+use Rattle.timetable.proofs.Meanings.{timetable-mean, timetable-runs}
+use Rattle.timetable.specs.Timetable.{timetableAfter}
+use Rattle.verdict.specs.Verdict.{VerdictAnswer, verdictOf, verdictRefusal, toldLate, countedMargin, margin, resultLatency}
+use Rattle.verdict.specs.declared.ProposalVerdict.{ProposalVerdict}
+use Rattle.plan.proofs.Meanings.{plan-given, plan-refused, plan-past, plan-means}
+use Rattle.plan.specs.Plan.{planRefusal, planAnswerOf, planAfter}
 use Rattle.stages.specs.Stages.{listed}
-use Rattle.resync.specs.Plan.{planRefusal, planAnswerOf, planAfter}
-use Rattle.resync.proofs.Planned.{plan-given, plan-refused, plan-past, plan-means}
 use Rattle.claims.specs.Demand2.{Demand2, delayIn, markBit, startIn, planListed}
 use Rattle.claims.specs.Demand3.{WellFormedFile}
 use Rattle.claims.proofs.Answer.{number-is, only-judged, all-passed, edges-formed, sentenced}

@@ -26,15 +26,15 @@ use Rattle.files.specs.declared.Refusal.{Refusal}
 use Rattle.files.specs.Refusals.{notRefused}
 use Rattle.files.specs.Files.{graphOf, proposalOf}
 use Rattle.files.proofs.First.{none-refused}
-use Rattle.verdicts.specs.Verdicts.{judgedRefusal, timed, judgement}
-use Rattle.verdicts.specs.Theorems.{Sentenced, cycle-made, order-lost, late, accepted}
-use Rattle.verdicts.proofs.Meanings.{accepted-by-paths}
-use Rattle.resync.specs.declared.ProposalVerdict.{ProposalVerdict}
-use Rattle.resync.specs.Calls.{tasksOf}
-use Rattle.resync.specs.Theorems.{AcceptedFile}
-use Rattle.resync.specs.Plan.{planRefusal, planAnswerOf}
-use Rattle.resync.specs.Verdict.{VerdictAnswer, resultLatency}
-use Rattle.resync.proofs.Planned.{plan-given, latency-told, edges-listed}
+use Rattle.judgement.specs.Judgement.{judgedRefusal, timed, judgement}
+use Rattle.judgement.specs.Theorems.{Sentenced, cycle-made, order-lost, late, accepted}
+use Rattle.judgement.proofs.Meanings.{accepted-by-paths}
+use Rattle.acceptance.specs.Outcomes.{tasksOf}
+use Rattle.acceptance.specs.Theorems.{AcceptedFile}
+use Rattle.verdict.specs.Verdict.{VerdictAnswer, resultLatency}
+use Rattle.verdict.specs.declared.ProposalVerdict.{ProposalVerdict}
+use Rattle.plan.proofs.Meanings.{plan-given, latency-told, edges-listed}
+use Rattle.plan.specs.Plan.{planRefusal, planAnswerOf}
 use Rattle.claims.specs.Demand2.{planListed}
 use Rattle.claims.specs.Demand3.{Demand3, WellFormedFile, resultGraph, RunBreaks, Late}
 use Rattle.claims.proofs.Passed.{graph-passes, proposal-passes}

@@ -18,11 +18,13 @@ use Rattle.files.specs.Files.{taskCount, edgeCount, graphBits, proposalBits, gr
 use Rattle.files.proofs.Repeats.{repeats-earlier-is}
 use Rattle.readings.proofs.Whole.{task-count, sync-count, proposal-count}
 use Rattle.readings.proofs.Accepted.{graph-formed}
-use Rattle.schedule.specs.Schedule.{scheduleRefusal, acceptanceRefusal}
-use Rattle.schedule.specs.Theorems.{Judged, zero-cycle, input-waits, not-joined, bound-below, passes}
-use Rattle.schedule.proofs.Judged.{judged-iff, no-place}
-use Rattle.resync.specs.Calls.{roomRefusal, turnsRefusal, tasksOf, delaysRefusal, timetableRefusal}
-use Rattle.resync.specs.Plan.{planRefusal}
+use Rattle.acceptance.specs.Acceptance.{scheduleRefusal, acceptanceRefusal}
+use Rattle.acceptance.specs.Theorems.{Judged, zero-cycle, input-waits, not-joined, bound-below, passes}
+use Rattle.acceptance.proofs.Judged.{judged-iff, no-place}
+use Rattle.acceptance.specs.Outcomes.{roomRefusal, tasksOf}
+use Rattle.least_delays.specs.LeastDelays.{delaysRefusal}
+use Rattle.timetable.specs.Timetable.{turnsRefusal, timetableRefusal}
+use Rattle.plan.specs.Plan.{planRefusal}
 use Rattle.claims.specs.Demand1.{Sequence, _at_when_, _when_, _then_, each, Outside, FillingBit, NotBelow, SameProcessor, SameAsEarlier, InputWaits, NotJoined, BoundBelow, graphFileChecks, nineToTwelve, graphChecks, proposalFileChecks, delaysChecks, timetableChecks, planChecks}
 use Rattle.claims.proofs.Sequences.{Follows, passing, stopping, one, check-then, and-then, only, each-follows, All, all-both, all-each, Earlier, low}
 use Rattle.claims.proofs.Conditions.{decides-or, differs, outside, not-below, end-outside, within-processor, filling-bit}

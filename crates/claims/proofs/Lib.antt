@@ -10,4 +10,5 @@ pub mod Demand1
 pub mod Demand2
 pub mod Demand3
 pub mod Requests
+pub mod Promises
 pub mod Cases

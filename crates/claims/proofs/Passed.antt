@@ -9,11 +9,11 @@ use Rattle.files.specs.Refusals.{notRefused}
 use Rattle.files.specs.Files.{taskCount, graphRefusal, proposalRefusal}
 use Rattle.files.proofs.First.{none-refused}
 use Rattle.readings.proofs.Whole.{task-count}
-use Rattle.schedule.specs.Schedule.{acceptanceRefusal}
-use Rattle.schedule.proofs.Judged.{accepted-iff-passed}
-use Rattle.resync.specs.Calls.{tasksOf}
-use Rattle.resync.specs.Theorems.{AcceptedFile}
-use Rattle.resync.proofs.Meanings.{success-plain}
+use Rattle.acceptance.specs.Acceptance.{acceptanceRefusal}
+use Rattle.acceptance.proofs.Judged.{accepted-iff-passed}
+use Rattle.acceptance.specs.Outcomes.{tasksOf}
+use Rattle.acceptance.specs.Theorems.{AcceptedFile}
+use Rattle.acceptance.proofs.Rooms.{success-plain}
 use Rattle.claims.specs.Demand1.{Sequence, Says, graphChecks, proposalFileChecks}
 use Rattle.claims.specs.Demand3.{WellFormedFile}
 use Rattle.claims.proofs.Sequences.{Follows, says, says-one, All, OnePlace, settled}
@@ -40,7 +40,7 @@ passed-says checks r one-place follows plain = (
 
 pub graph-passes : (s : List ℕ) → AcceptedFile s ↔ Says (graphChecks s) 0 0
 graph-passes s =
-    let iff = passed-says (graphChecks s) (acceptanceRefusal s) (settled (graphChecks s) (graph-earlier s)) (graph-follows s) (success-plain s 0 0 .0) in
+    let iff = passed-says (graphChecks s) (acceptanceRefusal s) (settled (graphChecks s) (graph-earlier s)) (graph-follows s) (success-plain s) in
     (λ graph. iff .0 (accepted-iff-passed s .1 graph), λ said. accepted-iff-passed s .0 (iff .1 said))
 
 pub proposal-passes : (s p : List ℕ) → WellFormedFile s p ↔ Says (proposalFileChecks (taskCount s) p) 0 0

@@ -27,15 +27,15 @@ use Rattle.files.specs.Files.{taskCount, graphOf, proposalOf, proposalRefusal}
 use Rattle.files.proofs.First.{passes, stops, number-same, zero-or-not, last-answer, none-refused, if-refused}
 use Rattle.readings.proofs.Whole.{task-count}
 use Rattle.readings.proofs.Accepted.{proposal-formed}
-use Rattle.schedule.specs.Schedule.{acceptanceRefusal}
-use Rattle.schedule.proofs.Judged.{accepted-iff-passed}
-use Rattle.verdicts.specs.Verdicts.{someOnCycle, lostRefusal, judgedRefusal, OpenPlace}
-use Rattle.verdicts.specs.Theorems.{Sentenced, cycle-made, order-lost, late, accepted, FirstLost}
-use Rattle.verdicts.proofs.Tested.{off-cycles-of}
-use Rattle.verdicts.proofs.Meanings.{sentenced-iff, lost-place, result-latency}
-use Rattle.resync.specs.declared.ProposalVerdict.{ProposalVerdict}
-use Rattle.resync.specs.Calls.{tasksOf}
-use Rattle.resync.specs.Verdict.{margin, verdictRefusal, countedMargin, toldLate, resultLatency, verdictOf, VerdictAnswer}
+use Rattle.acceptance.specs.Acceptance.{acceptanceRefusal}
+use Rattle.acceptance.proofs.Judged.{accepted-iff-passed}
+use Rattle.judgement.specs.Judgement.{someOnCycle, lostRefusal, judgedRefusal, OpenPlace}
+use Rattle.judgement.specs.Theorems.{Sentenced, cycle-made, order-lost, late, accepted, FirstLost}
+use Rattle.judgement.proofs.Tested.{off-cycles-of}
+use Rattle.judgement.proofs.Meanings.{sentenced-iff, lost-place, result-latency}
+use Rattle.acceptance.specs.Outcomes.{tasksOf}
+use Rattle.verdict.specs.Verdict.{margin, verdictRefusal, countedMargin, toldLate, resultLatency, verdictOf, VerdictAnswer}
+use Rattle.verdict.specs.declared.ProposalVerdict.{ProposalVerdict}
 use Rattle.claims.specs.Demand1.{Check, Sequence, _at_when_, _when_, _then_, each, Says, CycleMade, SomeOrderLost, graphChecks, proposalFileChecks, proposedChecks, verdictChecks, LateTold}
 use Rattle.claims.proofs.Sequences.{Follows, passing, stopping, one, check-then, and-then, only, each-follows, says, All, all-both, all-each, OnePlace, settled, answers-so, earlier-low}
 use Rattle.claims.proofs.Followed.{in-time, graph-follows, graph-earlier, proposal-file-follows, proposal-file-earlier}

@@ -11,11 +11,14 @@ use Rattle.model.specs.Example.{edge}
 use Rattle.layout.specs.declared.EdgeRecord.{EdgeRecord}
 use Rattle.files.specs.Files.{graphOf}
 use Rattle.stages.specs.Stages.{writtenInto}
-use Rattle.resync.specs.declared.Outcome.{Outcome}
-use Rattle.resync.specs.declared.ProposalVerdict.{ProposalVerdict}
-use Rattle.resync.specs.Calls.{outcome, delaysRefusal, delaysAfter, redundantOf, timetableRefusal, timetableAfter}
-use Rattle.resync.specs.Plan.{planAnswerOf, planAfter}
-use Rattle.resync.specs.Verdict.{VerdictAnswer}
+use Rattle.acceptance.specs.declared.Outcome.{Outcome}
+use Rattle.acceptance.specs.Outcomes.{outcome}
+use Rattle.least_delays.specs.LeastDelays.{delaysRefusal, delaysAfter}
+use Rattle.redundant.specs.Redundant.{redundantOf}
+use Rattle.timetable.specs.Timetable.{timetableRefusal, timetableAfter}
+use Rattle.verdict.specs.Verdict.{VerdictAnswer}
+use Rattle.verdict.specs.declared.ProposalVerdict.{ProposalVerdict}
+use Rattle.plan.specs.Plan.{planAnswerOf, planAfter}
 
 -- ── Cases ──
 

@@ -20,13 +20,17 @@ use Rattle.model.specs.Paths.{Path, ZeroCycle, OnCycle, SomeLost, Latency}
 use Rattle.model.specs.Proposals.{result}
 use Rattle.files.specs.Files.{taskCount, edgeCount, graphBits, proposalBits, graphOf, proposalOf, edgeIn}
 use Rattle.readings.specs.Working.{graphReading, proposalReading}
-use Rattle.verdicts.specs.Verdicts.{OpenPlace}
-use Rattle.verdicts.specs.Theorems.{FirstLost}
-use Rattle.resync.specs.declared.Outcome.{Outcome}
-use Rattle.resync.specs.declared.ProposalVerdict.{ProposalVerdict}
-use Rattle.resync.specs.Calls.{outcome, figuresOf, redundantOf, noMarks, delaysRefusal, delaysAfter, timetableRefusal, timetableAfter}
-use Rattle.resync.specs.Plan.{planAnswerOf, planAfter}
-use Rattle.resync.specs.Verdict.{VerdictAnswer}
+use Rattle.judgement.specs.Judgement.{OpenPlace}
+use Rattle.judgement.specs.Theorems.{FirstLost}
+use Rattle.acceptance.specs.declared.Outcome.{Outcome}
+use Rattle.acceptance.specs.Outcomes.{outcome}
+use Rattle.figures.specs.Figures.{figuresOf}
+use Rattle.least_delays.specs.LeastDelays.{delaysRefusal, delaysAfter}
+use Rattle.redundant.specs.Redundant.{redundantOf, noMarks}
+use Rattle.timetable.specs.Timetable.{timetableRefusal, timetableAfter}
+use Rattle.verdict.specs.Verdict.{VerdictAnswer}
+use Rattle.verdict.specs.declared.ProposalVerdict.{ProposalVerdict}
+use Rattle.plan.specs.Plan.{planAnswerOf, planAfter}
 
 -- ── Checks, and sequences of them ──
 

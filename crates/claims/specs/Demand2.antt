@@ -23,11 +23,15 @@ use Rattle.files.specs.Files.{graphOf, proposalOf}
 use Rattle.stages.specs.Stages.{listed}
 use Rattle.marks.specs.declared.Marks.{Marks}
 use Rattle.marks.specs.Marks.{markAt, placesOf}
-use Rattle.resync.specs.declared.ProposalVerdict.{ProposalVerdict}
-use Rattle.resync.specs.Calls.{outcome, tasksOf, figuresOf, delaysRefusal, delaysAfter, redundantOf, timetableRefusal, timetableAfter}
-use Rattle.resync.specs.Theorems.{AcceptedFile}
-use Rattle.resync.specs.Plan.{planAnswerOf, planAfter}
-use Rattle.resync.specs.Verdict.{VerdictAnswer}
+use Rattle.acceptance.specs.Outcomes.{outcome, tasksOf}
+use Rattle.acceptance.specs.Theorems.{AcceptedFile}
+use Rattle.figures.specs.Figures.{figuresOf}
+use Rattle.least_delays.specs.LeastDelays.{delaysRefusal, delaysAfter}
+use Rattle.redundant.specs.Redundant.{redundantOf}
+use Rattle.timetable.specs.Timetable.{timetableRefusal, timetableAfter}
+use Rattle.verdict.specs.Verdict.{VerdictAnswer}
+use Rattle.verdict.specs.declared.ProposalVerdict.{ProposalVerdict}
+use Rattle.plan.specs.Plan.{planAnswerOf, planAfter}
 
 -- "row by row": the number of tasks a and b in a delay table of n tasks
 abbrev pub delayIn : ℕ → List ℕ → ℕ → ℕ → ℕ

@@ -20,12 +20,12 @@ use Rattle.model.specs.Plan.{Stage}
 use Rattle.layout.specs.declared.EdgeRecord.{EdgeRecord}
 use Rattle.files.specs.Files.{taskCount, graphOf, proposalOf, proposalRefusal}
 use Rattle.files.specs.Refusals.{notRefused}
-use Rattle.verdicts.specs.Verdicts.{judgement}
-use Rattle.resync.specs.declared.ProposalVerdict.{ProposalVerdict}
-use Rattle.resync.specs.Calls.{tasksOf}
-use Rattle.resync.specs.Theorems.{AcceptedFile}
-use Rattle.resync.specs.Plan.{planAnswerOf}
-use Rattle.resync.specs.Verdict.{VerdictAnswer}
+use Rattle.judgement.specs.Judgement.{judgement}
+use Rattle.acceptance.specs.Outcomes.{tasksOf}
+use Rattle.acceptance.specs.Theorems.{AcceptedFile}
+use Rattle.verdict.specs.Verdict.{VerdictAnswer}
+use Rattle.verdict.specs.declared.ProposalVerdict.{ProposalVerdict}
+use Rattle.plan.specs.Plan.{planAnswerOf}
 use Rattle.claims.specs.Demand1.{Says, graphChecks, proposalFileChecks}
 use Rattle.claims.specs.Demand2.{planListed}
 

@@ -9,7 +9,8 @@ use Rattle.model.specs.Graph.{edges}
 use Rattle.model.specs.Paths.{Least}
 use Rattle.delays.specs.Delays.{withRow, rowsFrom}
 use Rattle.files.specs.Files.{graphOf}
-use Rattle.resync.specs.Calls.{outcome, tasksOf, delaysRefusal, delaysAfter}
+use Rattle.acceptance.specs.Outcomes.{outcome, tasksOf}
+use Rattle.least_delays.specs.LeastDelays.{delaysRefusal, delaysAfter}
 use Rattle.claims.specs.Demand2.{delayIn}
 
 -- what `delays::fill_row` leaves of a list, by its contract: row a of the table of a file's graph made in its part

@@ -16,7 +16,7 @@ use Rattle.records.specs.Columns.{at}
 use Rattle.records.proofs.Fill.{length-tabulate, getD-tabulate}
 use Rattle.records.proofs.Rows.{rows-at}
 use Rattle.delays.specs.Delays.{entry}
-use Rattle.counts.specs.Counts.{CountsOf}
+use Rattle.subsumption.specs.Subsumption.{CountsOf}
 use Rattle.updates.specs.Updates.{Spread}
 use Rattle.candidates.specs.Candidates.{countTable}
 use Rattle.prepared.specs.Ready.{cut, Ready}

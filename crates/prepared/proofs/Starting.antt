@@ -1,11 +1,11 @@
--- What the needs of `start` ask: the graph's table stands at the front of the lent list, the front is the table of counted delays once its diagonal is 0, and
+-- What the needs of `prepare` ask: the graph's table stands at the front of the lent list, the front is the table of counted delays once its diagonal is 0, and
 -- the stage's edges are few and between tasks of the graph.
 use mathlib.Core.Path.{_≡_, refl, sym, ap, _∙_, subst}
 use mathlib.Core.List.{List, _++_}
 use Prim.Native.Nat.{ℕ, _+_, _-_, _*_, _≤_, _<_}
 use native.Mathlib.Nat.{sub-zero, mul-one}
 use native.Mathlib.Omega.{arith}
-use lib.ListN.{length, take, length-append}
+use lib.ListN.{length, take, length-take, length-append}
 use lib.Seq.{take-at}
 use Rattle.model.specs.Lists.{tabulate}
 use Rattle.model.specs.Tasks.{Edge, Ends}
@@ -19,9 +19,12 @@ use Rattle.records.proofs.Fill.{length-tabulate}
 use Rattle.records.proofs.Rows.{rows-length, place-within, product-small}
 use Rattle.delays.specs.Delays.{entry, delayTable}
 use Rattle.delays.proofs.Table.{table-length, table-front, table-room}
-use Rattle.counts.specs.Counts.{CountsOf}
+use Rattle.subsumption.specs.Subsumption.{CountsOf}
 use Rattle.updates.specs.Updates.{Small}
 use Rattle.candidates.specs.Candidates.{countTable}
+use Rattle.results.specs.Fronts.{HeldFront}
+use Rattle.results.proofs.Fronts.{held-edges}
+use Rattle.stages.proofs.Staged.{front-few}
 
 -- numbers of 0 are small
 pub blank-small : (xs : List ℕ) → ((i : ℕ) → at xs i ≡ 0) → Small xs
@@ -93,6 +96,23 @@ module _ {tasks : ℕ} {g : Graph} (accepted : AcceptedGraph g) (same : tasks �
 
     pub stage-ends : Ends tasks (edgesOf source sink delay)
     stage-ends = subst (λ (es : List Edge). Ends tasks es) (sym held) (subst (λ (n : ℕ). Ends n (firstStage g)) (sym same) (formed .ends))
+
+-- the stage's lists as they are lent
+module _ {many : ℕ} {source sink delay : List ℕ} {list : List Edge} (front : HeldFront 256 many source sink delay list) where
+  pub many-within : (many ≤ length source) × (many ≤ length sink) × (many ≤ length delay)
+  many-within =
+      let most = front-few front in
+      (omega (arith, most, front .sources .room), omega (arith, most, front .sinks .room), omega (arith, most, front .delays .room))
+
+  pub lent-lists :
+      (length (take (many - 0) sink) ≡ length (take (many - 0) source)) × (length (take (many - 0) delay) ≡ length (take (many - 0) source))
+  lent-lists = (
+    omega (arith, length-take (many - 0) sink, length-take (many - 0) source, front .sinks .room, front .sources .room),
+    omega (arith, length-take (many - 0) delay, length-take (many - 0) source, front .delays .room, front .sources .room),
+  )
+
+  pub lent-is : edgesOf (take (many - 0) source) (take (many - 0) sink) (take (many - 0) delay) ≡ list
+  lent-is = (λ i. edgesOf (take (sub-zero many i) source) (take (sub-zero many i) sink) (take (sub-zero many i) delay)) ∙ held-edges front
 
 -- counts of edges are counts of the same edges
 pub counts-held :

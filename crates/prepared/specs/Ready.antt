@@ -8,7 +8,7 @@ use Rattle.model.specs.Tasks.{Edge}
 use Rattle.model.specs.Graph.{Graph, count}
 use Rattle.model.specs.Plan.{presentEdges, counting}
 use Rattle.records.specs.Columns.{at}
-use Rattle.counts.specs.Counts.{CountsOf}
+use Rattle.subsumption.specs.Subsumption.{CountsOf}
 use Rattle.updates.specs.Updates.{Small}
 
 -- a delay cut at 16,383, which stands for none too

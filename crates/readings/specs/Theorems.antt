@@ -7,7 +7,7 @@ use Rattle.model.specs.Tasks.{Edge}
 use Rattle.model.specs.Graph.{Graph, WellFormed, WellFormedEdges, count, edges}
 use Rattle.records.specs.Columns.{ProcessorsOf, TimesOf, SourcesOf, SinksOf, DelaysOf}
 use Rattle.files.specs.Files.{graphOf, proposalOf, graphRefusal, proposalRefusal}
-use Rattle.readings.specs.Working.{workingGraph, workingProposal, graphReading, proposalReading}
+use Rattle.readings.specs.Working.{workingGraph, workingProposal, graphReading, proposalReading, graphIn, proposedIn}
 
 -- A graph file of which nothing is refused holds a graph of 2 to 64 tasks on processors 0 to 15, times from 1 to 65,535, at most 256 edges between
 -- tasks of different processors, of delay 0 to 255, no two equal, and its latency input and output are tasks.
@@ -50,3 +50,10 @@ pub record HeldEdges (es : List Edge) : Type 0 where
 
 abbrev pub WorkingEdgesHold : Type 0
 WorkingEdgesHold = (es : List Edge) → length es ≤ 256 → HeldEdges es
+
+-- A working form holds the graph, or the edges, that it was made of.
+abbrev pub GraphInWorking : Type 0
+GraphInWorking = (g : Graph) → count g ≤ 64 → length (g .syncs) ≤ 256 → graphIn (workingGraph g) ≡ g
+
+abbrev pub ProposedInWorking : Type 0
+ProposedInWorking = (es : List Edge) → length es ≤ 256 → proposedIn (workingProposal es) ≡ es

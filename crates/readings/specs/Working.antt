@@ -2,16 +2,14 @@
 -- edges first (entry v is the one out of task v), then those of the file. Of a refused file, number and place, and 0 elsewhere.
 use mathlib.Core.Path.{_≡_}
 use mathlib.Core.List.{List}
-use Prim.Native.Nat.{ℕ}
+use Prim.Native.Nat.{ℕ, _+_}
 use lib.ListN.{length}
 use Rattle.model.specs.Lists.{tabulate}
 use Rattle.model.specs.Tasks.{Edge, processorOf}
 use Rattle.model.specs.Graph.{Graph, timeOf, edges}
-use Rattle.records.specs.Columns.{zeros}
+use Rattle.records.specs.Columns.{zeros, at, heldEdge}
 use Rattle.files.specs.declared.Refusal.{Refusal}
-use Rattle.readings.specs.declared.GraphNumbers.{GraphNumbers}
 use Rattle.readings.specs.declared.GraphReading.{GraphReading}
-use Rattle.readings.specs.declared.ProposalNumbers.{ProposalNumbers}
 use Rattle.readings.specs.declared.ProposalReading.{ProposalReading}
 use Rattle.files.specs.Refusals.{notRefused, ifPassed}
 use Rattle.files.specs.Files.{edgeIn, graphOf, graphRefusal, proposalOf, proposalRefusal}
@@ -78,6 +76,20 @@ proposalAnswer r es = ifPassed (r .number) (workingProposal es) (refusedProposal
 unfoldable pub proposalReading : ℕ → List ℕ → ProposalReading
 proposalReading n s = proposalAnswer (proposalRefusal n s) (proposalOf s)
 
+-- the graph that a working form holds
+unfoldable pub graphIn : GraphReading → Graph
+graphIn r = record {
+  tasks = tabulate (r .tasks) (λ v. record { processor = at (r .processor) v; time = at (r .time) v });
+  syncs = tabulate (r .edges) (λ j. heldEdge (r .source) (r .sink) (r .delay) (r .tasks + j));
+  input = r .input;
+  output = r .output;
+  bound = r .bound;
+}
+
+-- the edges that a proposal's working form holds
+unfoldable pub proposedIn : ProposalReading → List Edge
+proposedIn p = tabulate (p .edges) (heldEdge (p .source) (p .sink) (p .delay))
+
 -- Only for contracts inside: five lists are those of a graph's working form.
 pub record GraphLists (g : Graph) (processor time source sink delay : List ℕ) : Type 0 where
   pub processors : processor ≡ workingGraph g .processor
@@ -85,22 +97,3 @@ pub record GraphLists (g : Graph) (processor time source sink delay : List ℕ) 
   pub sources : source ≡ workingGraph g .source
   pub sinks : sink ≡ workingGraph g .sink
   pub delays : delay ≡ workingGraph g .delay
-
--- Only for contracts inside: a reading whose lists stand apart from its numbers.
-abbrev pub graphFrom : GraphNumbers → List ℕ → List ℕ → List ℕ → List ℕ → List ℕ → GraphReading
-graphFrom numbers processor time source sink delay = record {
-  refusal = numbers .refusal;
-  tasks = numbers .tasks;
-  edges = numbers .edges;
-  input = numbers .input;
-  output = numbers .output;
-  bound = numbers .bound;
-  processor = processor;
-  time = time;
-  source = source;
-  sink = sink;
-  delay = delay;
-}
-
-abbrev pub proposalFrom : ProposalNumbers → List ℕ → List ℕ → List ℕ → ProposalReading
-proposalFrom numbers source sink delay = record { refusal = numbers .refusal; edges = numbers .edges; source = source; sink = sink; delay = delay }

@@ -4,10 +4,8 @@ ghost use Prim.Native.Nat.{_≤_};
 ghost use Rattle.layout.specs.Layout.{graphHeader};
 ghost use Rattle.files.specs.Files.{graphOf, graphRecordsRefusal};
 ghost use Rattle.records.specs.Columns.{zeros};
-ghost use Rattle.readings.specs.Working.{GraphLists, graphFrom, graphReading};
-use crate::GraphNumbers;
-use crate::clearing::clear_bytes;
-use crate::clearing::clear_times;
+ghost use Rattle.readings.specs.Working.{GraphLists, refusedGraph, graphReading};
+use crate::GraphReading;
 use files::Refusal;
 use files::graph_frame_refusal;
 use files::records_refusal;
@@ -18,17 +16,22 @@ use records::edges_into;
 use records::processor_edges_into;
 use records::tasks_into;
 
-// The numbers of a refused file: the refusal, and 0 elsewhere.
-fn refused_numbers(refusal: Refusal) -> GraphNumbers
-    ensures { λ r. ⌜ r ≡ record { refusal = refusal; tasks = 0; edges = 0; input = 0; output = 0; bound = 0 } ⌝ }
+// A refused file: the refusal, and 0 elsewhere.
+fn refused_graph(refusal: Refusal) -> GraphReading
+    ensures { λ r. ⌜ r ≡ refusedGraph refusal ⌝ }
 {
-    GraphNumbers {
+    GraphReading {
         refusal,
         tasks: 0,
         edges: 0,
         input: 0,
         output: 0,
         bound: 0,
+        processor: [0; 64],
+        time: [0; 64],
+        source: [0; 320],
+        sink: [0; 320],
+        delay: [0; 320],
     }
 }
 
@@ -92,40 +95,43 @@ fn graph_records<'a>(
     )
 }
 
-// The graph that a file holds, in its working form, or the refusal of 1 to 8 that it gets, for every list of bytes: the numbers, and the lists in place
-// of zeros.
-pub fn read_graph_into<'a>(
-    bytes: &[u8],
-    processor: &'a mut [u8],
-    time: &'a mut [u16],
-    source: &'a mut [u8],
-    sink: &'a mut [u8],
-    delay: &'a mut [u8],
-) -> GraphNumbers
-    requires { ⌜ (now processor ≡ zeros 64) × (now time ≡ zeros 64) ⌝ }
-    requires { ⌜ (now source ≡ zeros 320) × (now sink ≡ zeros 320) × (now delay ≡ zeros 320) ⌝ }
-    ensures { λ r. ⌜ graphFrom r (now (processor .exit)) (now (time .exit)) (now (source .exit)) (now (sink .exit)) (now (delay .exit)) ≡ graphReading (now (bytes .entry)) ⌝ }
+// The graph that a file holds, in its working form, or the refusal of 1 to 8 that it gets, for every list of bytes.
+pub fn read_graph(bytes: &[u8]) -> GraphReading
+    ensures { λ r. ⌜ r ≡ graphReading (now (bytes .entry)) ⌝ }
 {
     let header = layout::graph_header(bytes);
     let frame = graph_frame_refusal(bytes, header);
     if frame.number != 0 {
-        return refused_numbers(frame);
+        return refused_graph(frame);
     }
-    let refusal = graph_records(bytes, header, processor, time, source, sink, delay);
+    let mut processor: [u8; 64] = [0; 64];
+    let mut time: [u16; 64] = [0; 64];
+    let mut source: [u8; 320] = [0; 320];
+    let mut sink: [u8; 320] = [0; 320];
+    let mut delay: [u8; 320] = [0; 320];
+    let refusal = graph_records(
+        bytes,
+        header,
+        &mut processor,
+        &mut time,
+        &mut source,
+        &mut sink,
+        &mut delay,
+    );
     if refusal.number != 0 {
-        clear_bytes(processor);
-        clear_times(time);
-        clear_bytes(source);
-        clear_bytes(sink);
-        clear_bytes(delay);
-        return refused_numbers(refusal);
+        return refused_graph(refusal);
     }
-    GraphNumbers {
+    GraphReading {
         refusal,
         tasks: header.tasks,
         edges: header.edges,
         input: header.input,
         output: header.output,
         bound: header.bound,
+        processor,
+        time,
+        source,
+        sink,
+        delay,
     }
 }

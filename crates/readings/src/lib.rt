@@ -1,15 +1,13 @@
 // Reading a file: which graph or proposal the bytes are, in the working form, or which refusal of 1 to 8 they get.
-mod clearing;
 mod graphs;
 mod proposals;
 
 use files::Refusal;
-pub use graphs::read_graph_into;
-pub use proposals::read_proposal_into;
+pub use graphs::read_graph;
+pub use proposals::read_proposal;
 
-// A graph file as read, as contracts state it; in code its numbers and its lists stand apart. The edges that order the graph stand in one list:
-// processor edges first, entry v the one out of task v, then from entry `tasks` on those of the file. Past the ends, and in a refused reading,
-// every number is 0.
+// A graph file as read, by value. The edges that order the graph stand in one list: processor edges first, entry v the one out of task v, then from
+// entry `tasks` on those of the file. Past the ends, and in a refused reading, every number is 0.
 pub struct GraphReading {
     pub refusal: Refusal,
     pub tasks: u32,
@@ -24,29 +22,11 @@ pub struct GraphReading {
     pub delay: [u8; 320],
 }
 
-// The numbers of a graph file as read. In a refused reading every number but the refusal's is 0.
-#[repr(C)]
-pub struct GraphNumbers {
-    pub refusal: Refusal,
-    pub tasks: u32,
-    pub edges: u32,
-    pub input: u32,
-    pub output: u32,
-    pub bound: u32,
-}
-
-// A proposal file as read, as contracts state it. Past the end, and in a refused reading, every number is 0.
+// A proposal file as read, by value. Past the end, and in a refused reading, every number is 0.
 pub struct ProposalReading {
     pub refusal: Refusal,
     pub edges: u32,
     pub source: [u8; 256],
     pub sink: [u8; 256],
     pub delay: [u8; 256],
-}
-
-// The numbers of a proposal file as read.
-#[repr(C)]
-pub struct ProposalNumbers {
-    pub refusal: Refusal,
-    pub edges: u32,
 }

@@ -4,9 +4,8 @@ ghost use Prim.Native.Nat.{_≤_};
 ghost use Rattle.layout.specs.Layout.{proposalHeader};
 ghost use Rattle.files.specs.Files.{proposalOf, proposedEdgesRefusal};
 ghost use Rattle.records.specs.Columns.{zeros};
-ghost use Rattle.readings.specs.Working.{workingProposal, proposalFrom, proposalReading};
-use crate::ProposalNumbers;
-use crate::clearing::clear_bytes;
+ghost use Rattle.readings.specs.Working.{workingProposal, refusedProposal, proposalReading};
+use crate::ProposalReading;
 use files::Refusal;
 use files::proposal_frame_refusal;
 use files::proposed_refusal;
@@ -14,11 +13,17 @@ use layout::PROPOSAL_HEADER_BITS;
 use layout::ProposalHeader;
 use records::edges_into;
 
-// The numbers of a refused file: the refusal, and no edges.
-fn refused_numbers(refusal: Refusal) -> ProposalNumbers
-    ensures { λ r. ⌜ r ≡ record { refusal = refusal; edges = 0 } ⌝ }
+// A refused file: the refusal, and no edges.
+fn refused_proposal(refusal: Refusal) -> ProposalReading
+    ensures { λ r. ⌜ r ≡ refusedProposal refusal ⌝ }
 {
-    ProposalNumbers { refusal, edges: 0 }
+    ProposalReading {
+        refusal,
+        edges: 0,
+        source: [0; 256],
+        sink: [0; 256],
+        delay: [0; 256],
+    }
 }
 
 // The edges of a file whose count is in range, into lists of zeros, and the refusal that they get.
@@ -44,31 +49,27 @@ fn proposal_records<'a>(
 }
 
 // The edges that a file proposes beside a graph of so many tasks, or the refusal of 1 to 8 that it gets, for every list of bytes and every number of
-// tasks: the numbers, and the lists in place of zeros.
-pub fn read_proposal_into<'a>(
-    bytes: &[u8],
-    tasks: usize,
-    source: &'a mut [u8],
-    sink: &'a mut [u8],
-    delay: &'a mut [u8],
-) -> ProposalNumbers
-    requires { ⌜ (now source ≡ zeros 256) × (now sink ≡ zeros 256) × (now delay ≡ zeros 256) ⌝ }
-    ensures { λ r. ⌜ proposalFrom r (now (source .exit)) (now (sink .exit)) (now (delay .exit)) ≡ proposalReading tasks (now (bytes .entry)) ⌝ }
+// tasks.
+pub fn read_proposal(bytes: &[u8], tasks: usize) -> ProposalReading
+    ensures { λ r. ⌜ r ≡ proposalReading tasks (now (bytes .entry)) ⌝ }
 {
     let header = layout::proposal_header(bytes);
     let frame = proposal_frame_refusal(bytes, header);
     if frame.number != 0 {
-        return refused_numbers(frame);
+        return refused_proposal(frame);
     }
-    let refusal = proposal_records(bytes, header, tasks, source, sink, delay);
+    let mut source: [u8; 256] = [0; 256];
+    let mut sink: [u8; 256] = [0; 256];
+    let mut delay: [u8; 256] = [0; 256];
+    let refusal = proposal_records(bytes, header, tasks, &mut source, &mut sink, &mut delay);
     if refusal.number != 0 {
-        clear_bytes(source);
-        clear_bytes(sink);
-        clear_bytes(delay);
-        return refused_numbers(refusal);
+        return refused_proposal(refusal);
     }
-    ProposalNumbers {
+    ProposalReading {
         refusal,
         edges: header.edges,
+        source,
+        sink,
+        delay,
     }
 }

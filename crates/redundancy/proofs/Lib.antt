@@ -1,5 +1,6 @@
 -- The proofs that other crates may cite.
 pub mod Between
+pub mod Graphs
 pub mod Rule
 pub mod Sums
 pub mod Words

@@ -1,22 +1,22 @@
--- Which edges of a graph are redundant, by the table of its least delays and the square of its last steps: those with a smaller entry between their ends
--- than their delay, and those with a sum within it.
+-- Which edges of a list are redundant, by the table of their least delays and the square of their last steps: those with a smaller entry between their
+-- ends than their delay, and those with a sum within it.
 use mathlib.Core.Path.{_≡_, refl, sym, ap, _∙_, subst}
-use mathlib.Core.Logic.{_⊎_, inl, inr}
-use mathlib.Core.Bool.{true, false}
+use mathlib.Core.Logic.{_⊎_, _↔_, inl, inr}
+use mathlib.Core.Bool.{Bool, true, false, _&&_}
 use mathlib.Core.List.{List}
 use Prim.Native.Nat.{ℕ, suc, _+_, _*_, _≤_, _<_, min}
 use native.Mathlib.Nat.{mul-le-mul-right, suc-mul}
 use native.Mathlib.Omega.{arith}
 use lib.ListN.{length, getD}
-use Rattle.model.specs.Tasks.{Edge, _∈_, noEdge}
-use Rattle.model.specs.Graph.{Graph, count, edges}
-use Rattle.model.specs.Paths.{syncAt}
-use Rattle.model.specs.Compute.{isRedundant}
+use Rattle.model.specs.Lists.{without}
+use Rattle.model.specs.Tasks.{Edge, _∈_, Ends, noEdge}
+use Rattle.model.specs.Paths.{OrderHeld}
+use Rattle.model.specs.Compute.{orderHolds}
+use Rattle.model.specs.Theorems.{Decides}
 use Rattle.model.proofs.Walks.{path-ends}
-use Rattle.model.proofs.Tests.{decides-yes, decides-no}
-use Rattle.model.proofs.Theorems.{redundant-is, least-delay-is}
+use Rattle.model.proofs.Tests.{decides-yes, decides-no, decides-and, ltb-decides, order-holds}
+use Rattle.model.proofs.Theorems.{least-delay-is}
 use Rattle.records.specs.Columns.{heldEdge, edgesOf}
-use Rattle.records.proofs.Ordered.{edges-count, sync-place}
 use Rattle.records.proofs.Edges.{edges-length, edge-in, edge-out, edge-at}
 use Rattle.records.proofs.Rows.{product-small}
 use Rattle.delays.specs.Delays.{Fit}
@@ -24,8 +24,8 @@ use Rattle.delays.specs.Rows.{LeastEntry}
 use Rattle.delays.proofs.Table.{table-length, table-at}
 use Rattle.delays.proofs.Steps.{fit-at}
 use Rattle.delays.proofs.Kept.{cut-least}
-use Rattle.redundancy.specs.Redundancy.{HeldGraph, Tabled, LeastSum}
-use Rattle.redundancy.proofs.Between.{Between, redundant-between}
+use Rattle.redundancy.specs.Redundancy.{redundantIn, Tabled, LeastSum}
+use Rattle.redundancy.proofs.Between.{Between, ends-without, held-between}
 
 -- edges between n tasks turned round are edges between them
 pub fit-turned : (source sink delay : List ℕ) {n : ℕ} → length sink ≡ length source → Fit n (edgesOf source sink delay) → Fit n (edgesOf sink source delay)
@@ -42,6 +42,12 @@ fit-turned source sink delay {n} sinks fit = record {
         let place = edge-out sink source delay e m in
         let ends = fit-at source sink delay (place .0) fit (omega (arith, place .1)) in
         (place .2, ends .0, ends .1, ends .2)
+
+-- the test decides redundancy
+redundant-decides : {n : ℕ} {es : List Edge} → Ends n es → (i : ℕ) →
+    Decides (redundantIn n es i) ((n + i < length es) × OrderHeld (without (n + i) es) (getD es (n + i) noEdge))
+unfolding redundantIn
+redundant-decides {n} {es} ends i = decides-and (ltb-decides (n + i) (length es)) (order-holds (ends-without ends (n + i)) (getD es (n + i) noEdge))
 
 module _ {n : ℕ} {source sink delay table last : List ℕ} (tabled : Tabled n source sink delay table last) where
   ends : (j : ℕ) → j < length source → (getD source j 0 < n) × (getD sink j 0 < n) × (getD delay j 0 ≤ 255)
@@ -120,49 +126,43 @@ module _ {n : ℕ} {source sink delay table last : List ℕ} (tabled : Tabled n 
           (tabled .steps .least (heldEdge sink source delay (edge .0)) (edge-in sink source delay (edge .0) (omega (arith, edge .1, tabled .sinks)))) in
           inr (omega (arith, sum .low (f .source) task, lowest s (f .source) (ends own l .0) task .least a path, direct, late, few))
 
-    module _ (g : Graph) (held : HeldGraph g n (edgesOf source sink delay)) (i : ℕ) (is : own ≡ n + i) where
-      below : i < length (g .syncs)
-      below =
-          let all = ap (λ (es : List Edge). length es) (held .held) in
-          omega (arith, l, is, all, edges-length source sink delay, edges-count g, held .as-many)
+    module _ (i : ℕ) (is : own ≡ n + i) where
+      below : n + i < length (edgesOf source sink delay)
+      below = omega (arith, l, is, edges-length source sink delay)
 
-      own-is : heldEdge source sink delay own ≡ syncAt g i
-      unfolding syncAt
-      own-is =
-          let place : own ≡ count g + i = omega (arith, is, held .as-many) in
-          sym (edge-at source sink delay own l) ∙ ((λ j. getD (sym (held .held) j) (place j) noEdge) ∙ sync-place g i)
+      own-is : heldEdge source sink delay own ≡ getD (edgesOf source sink delay) (n + i) noEdge
+      own-is = sym (edge-at source sink delay own l) ∙ ap (λ (k : ℕ). getD (edgesOf source sink delay) k noEdge) is
 
-      marked : Between (edgesOf source sink delay) (heldEdge source sink delay own) → isRedundant g i ≡ true
-      marked between =
-          decides-yes (redundant-is g (held .formed .syncs-formed .ends) i)
-          (redundant-between g (held .formed) (held .no-zero-cycle) i below .1
-          (subst (λ (e : Edge). Between (edges g) e) own-is (subst (λ (es : List Edge). Between es (heldEdge source sink delay own)) (sym (held .held)) between)))
+      between : OrderHeld (without (n + i) (edgesOf source sink delay)) (getD (edgesOf source sink delay) (n + i) noEdge) ↔
+          Between (edgesOf source sink delay) (getD (edgesOf source sink delay) (n + i) noEdge)
+      between = held-between (tabled .fit .ends) (tabled .apart .no-zero-cycle) (n + i) (tabled .apart .once i below)
 
-      pub marked-by-path : getD table (s * n + t) 0 < getD delay own 0 → isRedundant g i ≡ true
+      marked : Between (edgesOf source sink delay) (heldEdge source sink delay own) → redundantIn n (edgesOf source sink delay) i ≡ true
+      marked found =
+          decides-yes (redundant-decides (tabled .fit .ends) i)
+          (below, between .1 (subst (λ (e : Edge). Between (edgesOf source sink delay) e) own-is found))
+
+      pub marked-by-path : getD table (s * n + t) 0 < getD delay own 0 → redundantIn n (edgesOf source sink delay) i ≡ true
       marked-by-path less = marked (shorter less)
 
       module _ (r : ℕ) (sum : LeastSum table (s * n) last (t * 64) n r) where
-        pub marked-by-sum : r ≤ getD delay own 0 → isRedundant g i ≡ true
+        pub marked-by-sum : r ≤ getD delay own 0 → redundantIn n (edgesOf source sink delay) i ≡ true
         marked-by-sum few = marked (within r sum few)
 
-        pub not-marked : getD delay own 0 ≤ getD table (s * n + t) 0 → getD delay own 0 < r → isRedundant g i ≡ false
+        pub not-marked : getD delay own 0 ≤ getD table (s * n + t) 0 → getD delay own 0 < r → redundantIn n (edgesOf source sink delay) i ≡ false
         not-marked longer more =
-            decides-no (redundant-is g (held .formed .syncs-formed .ends) i)
+            decides-no (redundant-decides (tabled .fit .ends) i)
             (λ redundant.
-            none
-            (shown r sum
-            (subst (λ (es : List Edge). Between es (heldEdge source sink delay own)) (held .held)
-            (subst (λ (e : Edge). Between (edges g) e) (sym own-is) (redundant-between g (held .formed) (held .no-zero-cycle) i below .0 redundant)))))
+            none (shown r sum (subst (λ (e : Edge). Between (edgesOf source sink delay) e) (sym own-is) (between .0 (redundant .1)))))
           where
             none : (getD table (s * n + t) 0 < getD delay own 0) ⊎ (r ≤ getD delay own 0) → ⊥
             none (inl less) = omega arith
             none (inr few) = omega arith
 
--- a place past the list's end is no edge's
-pub past-end : (g : Graph) (n : ℕ) (source sink delay : List ℕ) → HeldGraph g n (edgesOf source sink delay) → (i : ℕ) → length source ≤ n + i →
-    isRedundant g i ≡ false
-past-end g n source sink delay held i l =
-    decides-no (redundant-is g (held .formed .syncs-formed .ends) i)
-    (λ redundant.
-    let all = ap (λ (es : List Edge). length es) (held .held) in
-    omega (arith, redundant .0, l, all, edges-length source sink delay, edges-count g, held .as-many))
+-- a place past the lists' end is no edge's
+pub past-end : (n : ℕ) (source sink delay : List ℕ) (i : ℕ) → length source ≤ n + i → redundantIn n (edgesOf source sink delay) i ≡ false
+unfolding redundantIn
+past-end n source sink delay i l =
+    let es = edgesOf source sink delay in
+    ap (λ (b : Bool). b && orderHolds n (without (n + i) es) (getD es (n + i) noEdge))
+    (decides-no (ltb-decides (n + i) (length es)) (λ below. omega (arith, below, l, edges-length source sink delay)))

@@ -5,12 +5,10 @@ ghost use mathlib.Core.Path.{_≡_};
 ghost use Prim.Native.Nat.{ℕ, _+_, _≤_, _<_};
 ghost use lib.ListN.{length, getD};
 ghost use Rattle.model.specs.Lists.{counted};
-ghost use Rattle.model.specs.Graph.{Graph};
-ghost use Rattle.model.specs.Compute.{isRedundant};
 ghost use Rattle.records.specs.Columns.{edgesOf};
 ghost use Rattle.delays.specs.Delays.{delayTable, Fit};
 ghost use Rattle.marks.specs.Marks.{number, marksOf};
-ghost use Rattle.redundancy.specs.Redundancy.{HeldGraph, Tabled, LeastSum};
+ghost use Rattle.redundancy.specs.Redundancy.{redundantIn, Apart, Tabled, LeastSum};
 use delays::FAR;
 use delays::WIDTH;
 use delays::lesser;
@@ -46,7 +44,7 @@ fn mark<'a>(
     requires { ⌜ own < length (now source) ⌝ }
     requires { ⌜ Tabled tasks (now source) (now sink) (now delay) (now table) (now last) ⌝ }
     ensures { λ r. ⌜ r ≤ 1 ⌝ }
-    ensures { λ r. ⌜ ((g : Graph) → HeldGraph g tasks (edgesOf (now (source .entry)) (now (sink .entry)) (now (delay .entry))) → (i : ℕ) → own ≡ tasks + i → r ≡ counted (isRedundant g i) 1) ⌝ }
+    ensures { λ r. ⌜ ((i : ℕ) → own ≡ tasks + i → r ≡ counted (redundantIn tasks (edgesOf (now (source .entry)) (now (sink .entry)) (now (delay .entry))) i) 1) ⌝ }
 {
     let from = source[own] as usize * tasks;
     let to = sink[own] as usize;
@@ -73,7 +71,7 @@ fn mark_word<'a>(
 ) -> u64
     requires { ⌜ first ≤ 192 ⌝ }
     requires { ⌜ Tabled tasks (now source) (now sink) (now delay) (now table) (now last) ⌝ }
-    ensures { λ r. ⌜ ((g : Graph) → HeldGraph g tasks (edgesOf (now (source .entry)) (now (sink .entry)) (now (delay .entry))) → r ≡ number 64 (λ j. isRedundant g (first + j))) ⌝ }
+    ensures { λ r. ⌜ r ≡ number 64 (λ j. redundantIn tasks (edgesOf (now (source .entry)) (now (sink .entry)) (now (delay .entry))) (first + j)) ⌝ }
 {
     let start = tasks + first;
     if start >= source.len() {
@@ -91,7 +89,7 @@ fn mark_word<'a>(
     word
 }
 
-// The marks of the redundant edges of a graph without cycle of delay 0.
+// The marks of the redundant edges among those behind the first `tasks`, which are the processors'. There must be no cycle of delay 0.
 pub fn redundant_marks<'a>(
     source: &'a [u8],
     sink: &'a [u8],
@@ -102,8 +100,9 @@ pub fn redundant_marks<'a>(
     requires { ⌜ (length (now sink) ≡ length (now source)) × (length (now delay) ≡ length (now source)) ⌝ }
     requires { ⌜ (tasks ≤ 64) × (length (now source) ≤ 320) ⌝ }
     requires { ⌜ Fit tasks (edgesOf (now source) (now sink) (now delay)) ⌝ }
+    requires { ⌜ Apart tasks (edgesOf (now source) (now sink) (now delay)) ⌝ }
     requires { ⌜ now table ≡ delayTable tasks (edgesOf (now source) (now sink) (now delay)) ⌝ }
-    ensures { λ r. ⌜ ((g : Graph) → HeldGraph g tasks (edgesOf (now (source .entry)) (now (sink .entry)) (now (delay .entry))) → r ≡ marksOf (isRedundant g)) ⌝ }
+    ensures { λ r. ⌜ r ≡ marksOf (redundantIn tasks (edgesOf (now (source .entry)) (now (sink .entry)) (now (delay .entry)))) ⌝ }
 {
     let mut last: [u16; 4096] = [FAR; 4096];
     take_steps(sink, source, delay, &mut last);

@@ -20,13 +20,15 @@ use Rattle.files.specs.Refusals.{ifPassed}
 use Rattle.files.specs.Files.{graphOf, graphRefusal, proposalRefusal}
 use Rattle.files.proofs.First.{stops, passes, number-same, zero-or-not, if-refused}
 use Rattle.marks.specs.Marks.{marksOf, setBelow}
-use Rattle.schedule.specs.Schedule.{acceptanceRefusal}
-use Rattle.schedule.specs.Theorems.{Judged, zero-cycle, input-waits, not-joined, bound-below, passes as judged-passes}
-use Rattle.schedule.proofs.Accepting.{refused-before}
-use Rattle.schedule.proofs.Judged.{refused-iff-judged}
-use Rattle.resync.specs.declared.ProposalVerdict.{ProposalVerdict}
-use Rattle.resync.specs.Calls.{outcome, tasksOf, figuresOf, noMarks, redundantOf}
-use Rattle.resync.specs.Verdict.{margin, verdictRefusal, countedMargin, toldLate, resultLatency, verdictOf, VerdictAnswer}
+use Rattle.acceptance.specs.Acceptance.{acceptanceRefusal}
+use Rattle.acceptance.specs.Theorems.{Judged, zero-cycle, input-waits, not-joined, bound-below, passes as judged-passes}
+use Rattle.acceptance.proofs.Accepting.{refused-before}
+use Rattle.acceptance.proofs.Judged.{refused-iff-judged}
+use Rattle.acceptance.specs.Outcomes.{outcome, tasksOf}
+use Rattle.figures.specs.Figures.{figuresOf}
+use Rattle.redundant.specs.Redundant.{noMarks, redundantOf}
+use Rattle.verdict.specs.Verdict.{margin, verdictRefusal, countedMargin, toldLate, resultLatency, verdictOf, VerdictAnswer}
+use Rattle.verdict.specs.declared.ProposalVerdict.{ProposalVerdict}
 use Rattle.report.specs.Report.{printed, textOf}
 use Rattle.report.specs.Theorems.{FiguresCut, RedundantCut, VerdictCut, ReportCut}
 use Rattle.report.proofs.Long.{LongNumber, long-graph, long-graph-number, graph-front, long-proposal, long-proposal-number, proposal-front}

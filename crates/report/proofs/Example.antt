@@ -5,10 +5,10 @@ use lib.IntN.{pos, negsuc}
 use Rattle.model.specs.Lists.{put}
 use Rattle.files.specs.Refusals.{ifPassed}
 use Rattle.marks.specs.Marks.{bitOf, markAt, placesBelow}
-use Rattle.resync.specs.declared.Outcome.{Outcome}
-use Rattle.resync.specs.declared.GraphFigures.{GraphFigures}
-use Rattle.resync.specs.declared.RedundantSet.{RedundantSet}
-use Rattle.resync.specs.declared.ProposalVerdict.{ProposalVerdict}
+use Rattle.acceptance.specs.declared.Outcome.{Outcome}
+use Rattle.figures.specs.declared.GraphFigures.{GraphFigures}
+use Rattle.redundant.specs.declared.RedundantSet.{RedundantSet}
+use Rattle.verdict.specs.declared.ProposalVerdict.{ProposalVerdict}
 use Rattle.text.specs.Text.{digit, digitsWithin, decimal, signed, spaced, numbers, line}
 use Rattle.report.specs.Report.{graphWord, redundantWord, acceptedWord, refusedWord, graphLine, redundantLine, acceptedLine, refusedLine, verdictLine, printed}
 

@@ -4,10 +4,10 @@ use mathlib.Core.List.{List, [], _∷_, _++_, append-assoc}
 use Prim.Native.Nat.{ℕ, suc, _+_}
 use lib.ListN.{length, length-append}
 use Rattle.marks.specs.Marks.{markAt, placesBelow}
-use Rattle.resync.specs.declared.Outcome.{Outcome}
-use Rattle.resync.specs.declared.GraphFigures.{GraphFigures}
-use Rattle.resync.specs.declared.RedundantSet.{RedundantSet}
-use Rattle.resync.specs.declared.ProposalVerdict.{ProposalVerdict}
+use Rattle.acceptance.specs.declared.Outcome.{Outcome}
+use Rattle.figures.specs.declared.GraphFigures.{GraphFigures}
+use Rattle.redundant.specs.declared.RedundantSet.{RedundantSet}
+use Rattle.verdict.specs.declared.ProposalVerdict.{ProposalVerdict}
 use Rattle.text.specs.Text.{space, newline, decimal, signed, spaced, numbers, line}
 use Rattle.report.specs.Report.{graphWord, redundantWord, acceptedWord, refusedWord, graphLine, redundantLine, acceptedLine, refusedLine}
 

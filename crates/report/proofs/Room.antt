@@ -14,12 +14,12 @@ use Rattle.files.specs.Files.{graphOf}
 use Rattle.files.proofs.First.{zero-or-not, if-passed, if-refused}
 use Rattle.marks.specs.Marks.{markAt, setBelow, placesBelow}
 use Rattle.marks.proofs.Laws.{set-below-le}
-use Rattle.schedule.specs.Schedule.{acceptanceRefusal}
-use Rattle.resync.specs.Calls.{redundantOf}
-use Rattle.resync.specs.declared.Outcome.{Outcome}
-use Rattle.resync.specs.declared.GraphFigures.{GraphFigures}
-use Rattle.resync.specs.declared.RedundantSet.{RedundantSet}
-use Rattle.resync.specs.declared.ProposalVerdict.{ProposalVerdict}
+use Rattle.acceptance.specs.Acceptance.{acceptanceRefusal}
+use Rattle.acceptance.specs.declared.Outcome.{Outcome}
+use Rattle.figures.specs.declared.GraphFigures.{GraphFigures}
+use Rattle.redundant.specs.Redundant.{redundantOf}
+use Rattle.redundant.specs.declared.RedundantSet.{RedundantSet}
+use Rattle.verdict.specs.declared.ProposalVerdict.{ProposalVerdict}
 use Rattle.text.specs.Text.{digit, digitsWithin, decimal, signed, spaced, numbers}
 use Rattle.text.proofs.Decimal.{digits-within}
 use Rattle.text.proofs.Fields.{fields, fields-append, field-one}

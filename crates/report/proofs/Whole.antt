@@ -12,10 +12,11 @@ use Rattle.marks.specs.declared.Marks.{Marks}
 use Rattle.marks.specs.declared.Places.{Places}
 use Rattle.marks.specs.Marks.{markAt, setBelow, placesBelow, placesOf}
 use Rattle.marks.proofs.Listed.{places-counted}
-use Rattle.resync.specs.declared.GraphFigures.{GraphFigures}
-use Rattle.resync.specs.declared.RedundantSet.{RedundantSet}
-use Rattle.resync.specs.declared.ProposalVerdict.{ProposalVerdict}
-use Rattle.resync.specs.Calls.{figuresOf, redundantOf}
+use Rattle.figures.specs.Figures.{figuresOf}
+use Rattle.figures.specs.declared.GraphFigures.{GraphFigures}
+use Rattle.redundant.specs.Redundant.{redundantOf}
+use Rattle.redundant.specs.declared.RedundantSet.{RedundantSet}
+use Rattle.verdict.specs.declared.ProposalVerdict.{ProposalVerdict}
 use Rattle.text.specs.Text.{Appended}
 use Rattle.report.specs.declared.Text.{Text}
 use Rattle.report.specs.Report.{graphLine, redundantLine, acceptedLine, refusedLine, verdictLine, printed, textOf, Reported}

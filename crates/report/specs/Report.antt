@@ -5,12 +5,13 @@ use Prim.Native.Nat.{ℕ, _-_}
 use lib.ListN.{length, replicate}
 use Rattle.files.specs.Refusals.{ifPassed}
 use Rattle.marks.specs.Marks.{markAt, placesBelow}
-use Rattle.resync.specs.declared.Outcome.{Outcome}
-use Rattle.resync.specs.declared.GraphFigures.{GraphFigures}
-use Rattle.resync.specs.declared.RedundantSet.{RedundantSet}
-use Rattle.resync.specs.declared.ProposalVerdict.{ProposalVerdict}
-use Rattle.resync.specs.Calls.{figuresOf, redundantOf}
-use Rattle.resync.specs.Verdict.{VerdictAnswer}
+use Rattle.acceptance.specs.declared.Outcome.{Outcome}
+use Rattle.figures.specs.Figures.{figuresOf}
+use Rattle.figures.specs.declared.GraphFigures.{GraphFigures}
+use Rattle.redundant.specs.Redundant.{redundantOf}
+use Rattle.redundant.specs.declared.RedundantSet.{RedundantSet}
+use Rattle.verdict.specs.Verdict.{VerdictAnswer}
+use Rattle.verdict.specs.declared.ProposalVerdict.{ProposalVerdict}
 use Rattle.text.specs.Text.{decimal, signed, numbers, line}
 use Rattle.report.specs.declared.Text.{Text}
 

@@ -5,9 +5,10 @@ use mathlib.Core.Logic.{_↔_}
 use mathlib.Core.List.{List}
 use Prim.Native.Nat.{ℕ, _<_}
 use lib.ListN.{take}
-use Rattle.resync.specs.declared.ProposalVerdict.{ProposalVerdict}
-use Rattle.resync.specs.Calls.{figuresOf, redundantOf}
-use Rattle.resync.specs.Verdict.{VerdictAnswer}
+use Rattle.figures.specs.Figures.{figuresOf}
+use Rattle.redundant.specs.Redundant.{redundantOf}
+use Rattle.verdict.specs.Verdict.{VerdictAnswer}
+use Rattle.verdict.specs.declared.ProposalVerdict.{ProposalVerdict}
 use Rattle.report.specs.declared.Text.{Text}
 use Rattle.report.specs.Report.{Reported}
 

@@ -14,8 +14,8 @@ pub struct Text {
 pub fn report(graph: &[u8], proposal: &[u8]) -> Text
     ensures { λ r. ⌜ Reported (now (graph .entry)) (now (proposal .entry)) r ⌝ }
 {
-    let figures = resync::figures(graph);
-    let set = resync::redundant(graph);
-    let verdict = resync::verdict(graph, proposal);
+    let figures = figures::figures(graph);
+    let set = redundant::redundant(graph);
+    let verdict = verdict::verdict(graph, proposal);
     text_of(figures, set, verdict)
 }

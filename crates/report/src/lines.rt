@@ -5,15 +5,16 @@ ghost use lib.ListN.{length, replicate};
 ghost use Rattle.text.specs.Text.{Appended};
 ghost use Rattle.report.specs.Report.{graphLine, redundantLine, acceptedLine, refusedLine, verdictLine, printed, textOf};
 use crate::Text;
-use resync::GraphFigures;
-use resync::Outcome;
-use resync::ProposalVerdict;
-use resync::RedundantSet;
+use acceptance::Outcome;
+use figures::GraphFigures;
+use marks::places_of;
+use redundant::RedundantSet;
 use text::put;
 use text::put_field;
 use text::put_fields;
 use text::put_signed_field;
 use text::put_word;
+use verdict::ProposalVerdict;
 
 const NEWLINE: u8 = b'\n';
 
@@ -35,7 +36,7 @@ fn put_redundant_line(out: &mut [u8], at: usize, set: RedundantSet) -> usize
     ensures { λ r. ⌜ Appended at (redundantLine set) (now (out .entry)) (now (out .exit)) r ⌝ }
 {
     let marks = set.marks;
-    let listed = resync::places(marks);
+    let listed = places_of(marks);
     let end = listed.count as usize;
     let list = listed.place;
     let word = put_word(out, at, b"redundant");

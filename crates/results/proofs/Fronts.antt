@@ -15,7 +15,7 @@ use Rattle.model.proofs.Basics.{below-suc}
 use Rattle.records.specs.Columns.{Column, heldEdge, edgesOf}
 use Rattle.records.proofs.Edges.{edge-at, edges-of-columns}
 use Rattle.results.specs.declared.ResultEdges.{ResultEdges}
-use Rattle.results.specs.Results.{HeldResult}
+use Rattle.results.specs.Results.{HeldResult, resultIn}
 use Rattle.results.specs.Fronts.{Front, HeldFront}
 use Rattle.results.proofs.Keeping.{keep-more, keep-same}
 
@@ -137,6 +137,7 @@ held-edges {size} {count} {source} {sink} {delay} {es} held =
 
 -- the edges of a result, from the fronts of its lists
 pub held-result : {r : ResultEdges} {es : List Edge} → HeldFront 576 (r .count) (r .source) (r .sink) (r .delay) es → r .count ≤ 576 → HeldResult r es
+unfolding resultIn
 held-result held few = record {
   as-many = held .sources .as-many;
   few = few;

@@ -22,18 +22,18 @@ resultOf n es proposed = cyclic n es ++ proposed
 
 -- ── Only for contracts inside ──
 
--- a result whose lists stand apart from their count
-abbrev pub resultFrom : ℕ → List ℕ → List ℕ → List ℕ → ResultEdges
-resultFrom count source sink delay = record { count = count; source = source; sink = sink; delay = delay }
+-- the edges that a result's lists hold
+unfoldable pub resultIn : ResultEdges → List Edge
+resultIn r = edgesOf (take (r .count) (r .source)) (take (r .count) (r .sink)) (take (r .count) (r .delay))
 
--- the fronts of three lists hold these edges
+-- they are these
 pub record HeldResult (r : ResultEdges) (es : List Edge) : Type 0 where
   pub as-many : r .count ≡ length es
   pub few : r .count ≤ 576
   pub source-room : length (r .source) ≡ 576
   pub sink-room : length (r .sink) ≡ 576
   pub delay-room : length (r .delay) ≡ 576
-  pub held : edgesOf (take (r .count) (r .source)) (take (r .count) (r .sink)) (take (r .count) (r .delay)) ≡ es
+  pub held : resultIn r ≡ es
 
 -- The edges of a graph's result are these.
 abbrev pub ResultEdgesAre : Type 0

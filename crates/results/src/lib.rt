@@ -9,7 +9,7 @@ ghost use Rattle.model.specs.Tasks.{Edge};
 ghost use Rattle.records.specs.Columns.{edgesOf, at};
 ghost use Rattle.delays.specs.Delays.{Fit};
 ghost use Rattle.reach.specs.Reach.{Reaches, Circled, ReachesOn};
-ghost use Rattle.results.specs.Results.{cyclic, resultOf, resultFrom, HeldResult};
+ghost use Rattle.results.specs.Results.{cyclic, resultOf, HeldResult};
 ghost use Rattle.results.specs.Fronts.{HeldFront};
 use reach::leads_to;
 use reach::paths_between_processors;
@@ -54,7 +54,7 @@ fn one_if(so: bool) -> usize
 }
 
 // Stores the edges that lie on a cycle, where a path leads from the sink's processor back to the source's, at the front of three lists. Gives how many.
-fn keep_cyclic_on<'a, 'b>(
+fn keep_cyclic<'a, 'b>(
     source: &'a [u8],
     sink: &'a [u8],
     delay: &'a [u8],
@@ -116,9 +116,9 @@ pub fn append<'a, 'b>(
     }
 }
 
-// The edges of the result of proposed edges, from the edges that order a graph, at the front of three lists, and how many. Paths lead from each task to
-// each one of its processor, as the processor edges do, so paths between processors tell which edges lie on a cycle.
-pub fn result_edges_into<'a, 'b>(
+// The edges of the result of proposed edges, from the edges that order a graph. Paths lead from each task to each one of its processor, as the processor
+// edges do, so paths between processors tell which edges lie on a cycle.
+pub fn result_edges<'a>(
     source: &'a [u8],
     sink: &'a [u8],
     delay: &'a [u8],
@@ -126,39 +126,44 @@ pub fn result_edges_into<'a, 'b>(
     proposed_source: &'a [u8],
     proposed_sink: &'a [u8],
     proposed_delay: &'a [u8],
-    to_source: &'b mut [u8],
-    to_sink: &'b mut [u8],
-    to_delay: &'b mut [u8],
-) -> usize
+) -> ResultEdges
     requires { ⌜ (length (now sink) ≡ length (now source)) × (length (now delay) ≡ length (now source)) ⌝ }
     requires { ⌜ (length (now «proposed_sink») ≡ length (now «proposed_source»)) × (length (now «proposed_delay») ≡ length (now «proposed_source»)) ⌝ }
     requires { ⌜ (length (now source) ≤ 320) × (length (now «proposed_source») ≤ 256) ⌝ }
     requires { ⌜ ((v : ℕ) → v < length (now processor) → at (now processor) v < 16) ⌝ }
     requires { ⌜ Fit (length (now processor)) (edgesOf (now source) (now sink) (now delay)) ⌝ }
     requires { ⌜ Circled (length (now processor)) (edgesOf (now source) (now sink) (now delay)) (now processor) ⌝ }
-    requires { ⌜ (length (now «to_source») ≡ 576) × (length (now «to_sink») ≡ 576) × (length (now «to_delay») ≡ 576) ⌝ }
-    ensures { λ r. ⌜ HeldResult (resultFrom r (now («to_source» .exit)) (now («to_sink» .exit)) (now («to_delay» .exit))) (resultOf (length (now (processor .entry))) (edgesOf (now (source .entry)) (now (sink .entry)) (now (delay .entry))) (edgesOf (now («proposed_source» .entry)) (now («proposed_sink» .entry)) (now («proposed_delay» .entry)))) ⌝ }
+    ensures { λ r. ⌜ HeldResult r (resultOf (length (now (processor .entry))) (edgesOf (now (source .entry)) (now (sink .entry)) (now (delay .entry))) (edgesOf (now («proposed_source» .entry)) (now («proposed_sink» .entry)) (now («proposed_delay» .entry)))) ⌝ }
 {
     let reach = paths_between_processors(source, sink, processor);
     let words = reach.words;
-    let kept = keep_cyclic_on(
+    let mut to_source: [u8; 576] = [0; 576];
+    let mut to_sink: [u8; 576] = [0; 576];
+    let mut to_delay: [u8; 576] = [0; 576];
+    let kept = keep_cyclic(
         source,
         sink,
         delay,
         processor,
         &words,
-        to_source,
-        to_sink,
-        to_delay,
+        &mut to_source,
+        &mut to_sink,
+        &mut to_delay,
     );
     append(
         proposed_source,
         proposed_sink,
         proposed_delay,
         kept,
-        to_source,
-        to_sink,
-        to_delay,
+        &mut to_source,
+        &mut to_sink,
+        &mut to_delay,
     );
-    kept + proposed_source.len()
+    let count = kept + proposed_source.len();
+    ResultEdges {
+        count: count as u32,
+        source: to_source,
+        sink: to_sink,
+        delay: to_delay,
+    }
 }

@@ -10,7 +10,7 @@ use borrow.Rule.Slice.PartMut.{mid-len}
 use Rattle.model.specs.Tasks.{Edge, Ends}
 use Rattle.records.specs.Columns.{heldEdge, edgesOf, at}
 use Rattle.records.proofs.Edges.{edge-in}
-use Rattle.schedule.proofs.Fronts.{front}
+use Rattle.acceptance.proofs.Fronts.{front}
 use Rattle.results.specs.Fronts.{HeldFront}
 use Rattle.results.proofs.Fronts.{held-edges}
 use Rattle.stages.specs.declared.StageEdges.{StageEdges}

@@ -8,10 +8,10 @@ ghost use Rattle.model.specs.Lists.{keep};
 ghost use Rattle.model.specs.Tasks.{Edge, Ends};
 ghost use Rattle.model.specs.Plan.{withPair};
 ghost use Rattle.records.specs.Columns.{edgesOf, at};
-ghost use Rattle.counts.specs.Counts.{subsumesBy};
+ghost use Rattle.subsumption.specs.Subsumption.{subsumesBy};
 ghost use Rattle.results.specs.Fronts.{HeldFront};
-use counts::is_subsumed;
 use results::store;
+use subsumption::is_subsumed;
 
 // Moves the edges that the pair (a, b) does not subsume to the front of the lists. Gives how many.
 fn keep_others<'a, 'b>(

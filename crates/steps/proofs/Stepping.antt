@@ -14,8 +14,8 @@ use Rattle.model.specs.Tasks.{Edge, _∈_, Ends}
 use Rattle.model.specs.Graph.{Graph, count}
 use Rattle.model.specs.Plan.{withPair, Candidate, replaced, step}
 use Rattle.records.specs.Columns.{edgesOf, at}
-use Rattle.counts.specs.Counts.{subsumesBy, CountsOf}
-use Rattle.counts.proofs.Totals.{keep-equal}
+use Rattle.subsumption.specs.Subsumption.{subsumesBy, CountsOf}
+use Rattle.subsumption.proofs.Totals.{keep-equal}
 use Rattle.updates.specs.Updates.{RowsJoined}
 use Rattle.candidates.specs.Candidates.{worthIn, BestPair}
 use Rattle.results.specs.Fronts.{HeldFront}

@@ -34,11 +34,11 @@ use Rattle.records.proofs.Fill.{getD-tabulate}
 use Rattle.delays.specs.Delays.{Fit}
 use Rattle.starts.proofs.Limits.{turn-fits}
 use Rattle.latest.specs.Latest.{earliestEnds, InTimeFrom}
-use Rattle.counts.specs.Counts.{subsumesBy, CountsOf}
-use Rattle.counts.proofs.Totals.{keep-equal}
+use Rattle.subsumption.specs.Subsumption.{subsumesBy, CountsOf}
+use Rattle.subsumption.proofs.Totals.{keep-equal}
 use Rattle.updates.specs.Updates.{RowsJoined}
 use Rattle.candidates.specs.Candidates.{worthIn, BestPair}
-use Rattle.verdicts.proofs.Tested.{result-fit}
+use Rattle.judgement.proofs.Tested.{result-fit}
 use Rattle.prepared.specs.Ready.{cut, Ready}
 use Rattle.present.specs.Present.{Timed}
 

@@ -12,7 +12,7 @@ use Rattle.prepared.specs.Ready.{Ready}
 use Rattle.present.specs.declared.Order.{Order}
 use Rattle.present.specs.Present.{Staged, Ordered, Timed}
 use Rattle.steps.specs.declared.StepAnswer.{StepAnswer}
-use Rattle.steps.specs.declared.Walked.{Walked}
+use Rattle.steps.specs.declared.LastStage.{LastStage}
 
 -- what a step starts from: a stage in lists, with its delays, counts and times
 pub record Here (g : Graph) (list : List Edge) (tasks many : ℕ) (source sink delay from to counts end latest : List ℕ) : Type 0 where
@@ -40,7 +40,7 @@ pub record Begun (g : Graph) (time : List ℕ) (many : ℕ) (source sink delay f
   pub ordered : Ordered g (firstStage g) time o
 
 -- what they lead to: the plan
-pub record Followed (g : Graph) (r : Walked) (source sink delay : List ℕ) : Type 0 where
+pub record Followed (g : Graph) (r : LastStage) (source sink delay : List ℕ) : Type 0 where
   pub steps : r .steps ≡ planOf g .steps
   pub latency : r .latency ≡ planLatency g
   pub held : HeldFront 256 (r .count) source sink delay (planOf g .list)

@@ -5,10 +5,10 @@ ghost use Rattle.model.specs.Tasks.{Edge};
 ghost use Rattle.model.specs.Graph.{Graph};
 ghost use Rattle.steps.specs.Steps.{Here, Stepped, Begun, Followed};
 use candidates::best_pair;
-use counts::add_pair;
 use present::Order;
 use present::next_times;
 use stages::replace;
+use subsumption::add_pair;
 
 // What a step gives: whether a candidate was taken, which one, and how many edges the stage has after it.
 pub struct StepAnswer {
@@ -18,8 +18,8 @@ pub struct StepAnswer {
     pub count: usize,
 }
 
-// Where the steps lead to: how many edges the last stage has, how many steps were taken, and the latency of the graph they lead to.
-pub struct Walked {
+// The last stage, to which the steps lead: how many edges it has, how many steps were taken, and the latency of the graph they lead to.
+pub struct LastStage {
     pub count: usize,
     pub steps: u32,
     pub latency: u32,
@@ -86,7 +86,7 @@ pub fn follow_steps<'a, 'b>(
     first_order: Order,
     end: &'b mut [u32],
     latest: &'b mut [u32],
-) -> Walked
+) -> LastStage
     requires { ⌜ ((g : Graph) × Begun g (now time) first (now source) (now sink) (now delay) (now from) (now to) (now counts) «first_order» (now end) (now latest)) ⌝ }
     ensures { λ r. ⌜ ((g : Graph) → Begun g (now (time .entry)) first (now (source .entry)) (now (sink .entry)) (now (delay .entry)) (now (from .entry)) (now (to .entry)) (now (counts .entry)) «first_order» (now (end .entry)) (now (latest .entry)) → Followed g r (now (source .exit)) (now (sink .exit)) (now (delay .exit))) ⌝ }
 {
@@ -116,7 +116,7 @@ pub fn follow_steps<'a, 'b>(
             steps += 1;
         }
     }
-    Walked {
+    LastStage {
         count,
         steps,
         latency: end[output],

@@ -53,7 +53,7 @@ returns : tie.Need-returns
 unfolding counted
 returns c =
     let start = c .before .before .before .before .before .before .before .before .before .before in
-    (omega arith, λ g held i is. ap (λ (b : Bool). counted b 1) (sym (marked-by-path (start .pre .1) (start .args .own) (start .pre .0) g held i is (omega (arith, c .if1 .taken)))))
+    (omega arith, λ i is. ap (λ (b : Bool). counted b 1) (sym (marked-by-path (start .pre .1) (start .args .own) (start .pre .0) i is (omega (arith, c .if1 .taken)))))
 
 mul-least-sum : tie.Need-mul-least-sum
 mul-least-sum c = omega (arith, at (c .before .before .before .before .before .before .before .before .before .before))
@@ -67,13 +67,13 @@ returns-2 : tie.Need-returns-2
 unfolding counted
 returns-2 c =
     let start = c .before .before .before .before .before .before .before .before .before .before .before .before in
-    (omega arith, λ g held i is. ap (λ (b : Bool). counted b 1) (sym (marked-by-sum (start .pre .1) (start .args .own) (start .pre .0) g held i is (c .before .least-sum .result) (c .before .least-sum .ensures) (omega (arith, c .if2 .taken)))))
+    (omega arith, λ i is. ap (λ (b : Bool). counted b 1) (sym (marked-by-sum (start .pre .1) (start .args .own) (start .pre .0) i is (c .before .least-sum .result) (c .before .least-sum .ensures) (omega (arith, c .if2 .taken)))))
 
 returns-3 : tie.Need-returns-3
 unfolding counted
 returns-3 c =
     let start = c .before .before .before .before .before .before .before .before .before .before .before .before in
-    (omega arith, λ g held i is. ap (λ (b : Bool). counted b 1) (sym (not-marked (start .pre .1) (start .args .own) (start .pre .0) g held i is (c .before .least-sum .result) (c .before .least-sum .ensures) (omega (arith, c .before .before .if1 .left)) (omega (arith, c .if2 .left)))))
+    (omega arith, λ i is. ap (λ (b : Bool). counted b 1) (sym (not-marked (start .pre .1) (start .args .own) (start .pre .0) i is (c .before .least-sum .result) (c .before .least-sum .ensures) (omega (arith, c .before .before .if1 .left)) (omega (arith, c .if2 .left)))))
 
 pub mark-spec : {M : Type 1} → statement M
 mark-spec =

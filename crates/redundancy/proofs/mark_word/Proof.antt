@@ -5,11 +5,9 @@ use mathlib.Core.Bool.{Bool, false}
 use Prim.Native.Nat.{ℕ, _+_, _*_, _-_, _^_, _≤_, _<_}
 use native.Mathlib.Omega.{arith}
 use lib.ListN.{length}
-use Rattle.model.specs.Graph.{Graph}
-use Rattle.model.specs.Compute.{isRedundant}
 use Rattle.records.specs.Columns.{edgesOf}
 use Rattle.marks.specs.Marks.{number}
-use Rattle.redundancy.specs.Redundancy.{HeldGraph}
+use Rattle.redundancy.specs.Redundancy.{redundantIn}
 use Rattle.redundancy.proofs.Rule.{past-end}
 use Rattle.redundancy.proofs.Words.{digit-more, digit-fits, number-more, number-none, number-shifted}
 use Rattle.redundancy.proofs.mark_word.Statement.{statement}
@@ -17,20 +15,21 @@ use Rattle.redundancy.proofs.mark_word.Tie as tie
 
 abbrev Inv-loop : tie.InvT-loop
 Inv-loop source sink delay table tasks last first start word₀ j₀ word j =
-    (j ≤ 64) × (word < 2 ^ j) ×
-    ((g : Graph) → HeldGraph g tasks (edgesOf source sink delay) → word ≡ number j (λ i. isRedundant g (first + i)))
+    (j ≤ 64) × (word < 2 ^ j) × (word ≡ number j (λ i. redundantIn tasks (edgesOf source sink delay) (first + i)))
 
 abbrev μ-loop : tie.MeasureT-loop
 μ-loop source sink delay table tasks last first start word₀ j₀ word j = 64 - j
 
+-- the test of which the word has the marks
+abbrev marked : tie.Start Inv-loop μ-loop → ℕ → Bool
+marked c i = redundantIn (c .args .tasks) (edgesOf (c .args .source .now) (c .args .sink .now) (c .args .delay .now)) (c .args .first + i)
+
 -- marks from place j of the word on, where no edge is left
-none-left : (c : tie.Start Inv-loop μ-loop) (j : ℕ) → length (c .args .source .now) ≤ c .args .tasks + c .args .first + j → (g : Graph) →
-    HeldGraph g (c .args .tasks) (edgesOf (c .args .source .now) (c .args .sink .now) (c .args .delay .now)) → (i : ℕ) → j ≤ i →
-    isRedundant g (c .args .first + i) ≡ false
-none-left c j over g held i l =
+none-left : (c : tie.Start Inv-loop μ-loop) (j : ℕ) → length (c .args .source .now) ≤ c .args .tasks + c .args .first + j → (i : ℕ) → j ≤ i →
+    marked c i ≡ false
+none-left c j over i l =
     let args = c .args in
-    past-end g (args .tasks) (args .source .now) (args .sink .now) (args .delay .now) held (args .first + i)
-    (omega arith)
+    past-end (args .tasks) (args .source .now) (args .sink .now) (args .delay .now) (args .first + i) (omega arith)
 
 add-start : tie.Need-add-start Inv-loop μ-loop
 add-start c =
@@ -38,16 +37,13 @@ add-start c =
     omega (arith, asked .0, asked .1 .few)
 
 returns : tie.Need-returns Inv-loop μ-loop
-returns c = λ g held.
+returns c =
     let start = c .before .before .before .before .before .before in
     let over : length (start .args .source .now) ≤ start .args .tasks + start .args .first + 0 = omega (arith, c .if1 .taken) in
-    let marked : ℕ → Bool = λ i. isRedundant g (start .args .first + i) in
-    number-shifted marked 0 (none-left start 0 over g held) 64 64 (omega arith) (number-none marked) refl
+    number-shifted (marked start) 0 (none-left start 0 over) 64 64 (omega arith) (number-none (marked start)) refl
 
 loop-holds : tie.Need-loop-holds Inv-loop μ-loop
-loop-holds c =
-    let first = c .before .before .before .before .before .before .args .first in
-    (omega arith, omega arith, λ g held. number-none (λ i. isRedundant g (first + i)))
+loop-holds c = (omega arith, omega arith, number-none (marked (c .before .before .before .before .before .before)))
 
 add-if2 : tie.Need-add-if2 Inv-loop μ-loop
 add-if2 c =
@@ -61,12 +57,11 @@ shl-result : tie.Need-shl-result Inv-loop μ-loop
 shl-result c = omega arith
 
 returns-2 : tie.Need-returns-2 Inv-loop μ-loop
-returns-2 c = λ g held.
+returns-2 c =
     let start = c .before .before .before .before .before .before .before .before .before in
     let loop = c .before .before .loop in
     let over : length (start .args .source .now) ≤ start .args .tasks + start .args .first + loop .j = omega (arith, c .if2 .taken) in
-    number-shifted (λ i. isRedundant g (start .args .first + i)) (loop .j) (none-left start (loop .j) over g held) (64 - loop .j) 64 (loop .inv .1)
-    (loop .inv .2 g held) (omega arith)
+    number-shifted (marked start) (loop .j) (none-left start (loop .j) over) (64 - loop .j) 64 (loop .inv .1) (loop .inv .2) (omega arith)
 
 mul-word : tie.Need-mul-word Inv-loop μ-loop
 mul-word c =
@@ -97,21 +92,19 @@ loop-less c = omega arith
 
 loop-again : tie.Need-loop-again Inv-loop μ-loop
 loop-again c =
-    let args = c .before .before .before .before .before .before .before .before .before .before .args in
+    let start = c .before .before .before .before .before .before .before .before .before .before in
     let loop = c .before .before .before .loop in (
       omega arith,
       digit-more (loop .j) (loop .inv .1) (c .mark .ensures .0),
-      λ g held.
-          number-more (λ i. isRedundant g (args .first + i)) (loop .j) (loop .inv .2 g held)
-          (c .mark .ensures .1 g held (args .first + loop .j) (omega arith)),
+      number-more (marked start) (loop .j) (loop .inv .2) (c .mark .ensures .1 (start .args .first + loop .j) (omega arith)),
     )
 
 returns-3 : tie.Need-returns-3 Inv-loop μ-loop
-returns-3 c = λ g held.
-    let args = c .before .before .before .before .before .before .before .before .args in
+returns-3 c =
+    let start = c .before .before .before .before .before .before .before .before in
     let loop = c .before .loop in
     let last : loop .j ≡ 64 = omega arith in
-    subst (λ (k : ℕ). loop .word ≡ number k (λ i. isRedundant g (args .first + i))) last (loop .inv .2 g held)
+    subst (λ (k : ℕ). loop .word ≡ number k (marked start)) last (loop .inv .2)
 
 pub mark-word-spec : {M : Type 1} → statement M
 mark-word-spec =

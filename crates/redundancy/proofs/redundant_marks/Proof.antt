@@ -24,7 +24,8 @@ tabled c =
       delays = asked .0 .1;
       few = asked .1 .0 .0;
       fit = asked .1 .1 .0;
-      least = asked .1 .1 .1;
+      apart = asked .1 .1 .1 .0;
+      least = asked .1 .1 .1 .1;
       steps = c .take-steps .ensures;
     }
 
@@ -65,11 +66,11 @@ mark-word-requires-4 c κs = (omega arith, tabled (c .before .before .before .be
 
 returns : tie.Need-returns
 unfolding wordOf marksOf
-returns c = λ g held x. record {
-  words = c .before .before .before .before .before .before .mark-word .ensures g held x
-      ∷ c .before .before .before .before .mark-word2 .ensures g held x
-      ∷ c .before .before .mark-word3 .ensures g held x
-      ∷ c .mark-word4 .ensures g held x
+returns c = λ x. record {
+  words = c .before .before .before .before .before .before .mark-word .ensures x
+      ∷ c .before .before .before .before .mark-word2 .ensures x
+      ∷ c .before .before .mark-word3 .ensures x
+      ∷ c .mark-word4 .ensures x
       ∷ [];
 }
 

@@ -1,4 +1,4 @@
--- `resync_plan` meets its contract, by a walk of its MIR: bytes and list go to `resync::plan`, the list for good, which promises the same.
+-- `resync_plan` meets its contract, by a walk of its MIR: bytes and list go to `plan::plan`, the list for good, which promises the same.
 -- What the bytes' slice owns is had twice: one copy is kept for the exit.
 use mathlib.Core.Path.{_≡_, refl}
 use mathlib.Core.List.{List, [], _∷_}
@@ -37,14 +37,14 @@ use denote.Triple.Walked.{says, onExit, Stays, stay-none-slice, gave-slice, walk
 use denote.Exit.{yes}
 use Rattle.layout.specs.declared.EdgeRecord.{EdgeRecord}
 use Rattle.layout.proofs.EdgeRecord as E
-use Rattle.resync.specs.declared.PlanAnswer.{PlanAnswer}
-use Rattle.resync.specs.Plan.{planAnswerOf, planAfter}
-use Rattle.resync.proofs.PlanAnswer as P
-use Rattle.resync.proofs.PlanAnswer.Laws as P′
-use Rattle.resync.proofs.plan as plan
-use Rattle.resync.proofs.plan.Symbol as plan-def
-use Rattle.resync.proofs.plan.Symbol.{name as #plan}
-use Rattle.resync.proofs.plan.Met as plan-thm
+use Rattle.plan.specs.declared.PlanAnswer.{PlanAnswer}
+use Rattle.plan.specs.Plan.{planAnswerOf, planAfter}
+use Rattle.plan.proofs.PlanAnswer as P
+use Rattle.plan.proofs.PlanAnswer.Laws as P′
+use Rattle.plan.proofs.plan as plan
+use Rattle.plan.proofs.plan.Symbol as plan-def
+use Rattle.plan.proofs.plan.Symbol.{name as #plan}
+use Rattle.plan.proofs.plan.Met as plan-thm
 use Rattle.resync_c.proofs.resync_plan.Key.{name as #handed}
 use Rattle.resync_c.proofs.resync_plan as handed
 use Rattle.resync_c.proofs.resync_plan.Statement as stated
@@ -165,4 +165,4 @@ resync-plan-spec 𝓤 H 𝓜 𝓖 𝓡 =
     entered 𝓤 H (tripleOf 𝓤 H (𝓖 .A) handed.signature (handed.spec 𝓤 H (𝓖 .A) (𝓜 .mem) (𝓡 .run)))
     (tables 𝓤 H 𝓜 𝓡 code.env .C) (tables 𝓤 H 𝓜 𝓡 code.env .Λ) #handed code.function (code.unfolded 𝓤 H 𝓜 𝓡)
     (handed-meets 𝓤 H (𝓖 .A) (givenOf 𝓤 H 𝓜 𝓖) (𝓜 .mem) (𝓡 .run) (tablesOf 𝓤 H 𝓜 (tables 𝓤 H 𝓜 𝓡 code.env))
-    (cited 𝓤 H (Plan 𝓤 H (𝓖 .A) (𝓜 .mem) (𝓡 .run)) 𝓜 𝓡 code.env #plan plan-def.routine code.calls-resync·plan (plan-thm.met 𝓤 H 𝓜 𝓖 𝓡)))
+    (cited 𝓤 H (Plan 𝓤 H (𝓖 .A) (𝓜 .mem) (𝓡 .run)) 𝓜 𝓡 code.env #plan plan-def.routine code.calls-plan·plan (plan-thm.met 𝓤 H 𝓜 𝓖 𝓡)))

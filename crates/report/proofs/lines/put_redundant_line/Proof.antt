@@ -13,8 +13,8 @@ use Rattle.report.proofs.Whole.{places-within, places-front}
 use Rattle.report.proofs.lines.put_redundant_line.Statement.{statement}
 use Rattle.report.proofs.lines.put_redundant_line.Tie as tie
 
-places-requires : tie.Need-places-requires
-places-requires c κs = search needs
+places-of-requires : tie.Need-places-of-requires
+places-of-requires c κs = search needs
 
 cast-end : tie.Need-cast-end
 cast-end c = search needs
@@ -43,7 +43,7 @@ part-put-fields-start c = search needs
 part-put-fields-end : tie.Need-part-put-fields-end
 part-put-fields-end c =
     let l = c .before .before .before .before .before .before .before .before .before .before .before .before .before in
-    places-within (l .before .before .before .args .set .marks) (l .places .result) (l .places .ensures)
+    places-within (l .before .before .before .args .set .marks) (l .places-of .result) (l .places-of .ensures)
 
 put-fields-requires : tie.Need-put-fields-requires
 put-fields-requires c κs =
@@ -53,7 +53,7 @@ put-fields-requires c κs =
     let e0 = c0 .put-word .ensures in
     let l = c0 .before .before .before .before .before in
     let s = l .before .before .before in
-    let same = ap (λ (z : List ℕ). length (spaced (numbers z))) (places-front (s .args .set .marks) (l .places .result) (l .places .ensures)) in
+    let same = ap (λ (z : List ℕ). length (spaced (numbers z))) (places-front (s .args .set .marks) (l .places-of .result) (l .places-of .ensures)) in
     omega (arith, s .pre, redundant-length (s .args .set), e0 .next-is, appending.same-length e0, e1 .next-is, appending.same-length e1, same)
 
 put-requires : tie.Need-put-requires
@@ -66,7 +66,7 @@ put-requires c κs =
     let e0 = c0 .put-word .ensures in
     let l = c0 .before .before .before .before .before in
     let s = l .before .before .before in
-    let same = ap (λ (z : List ℕ). length (spaced (numbers z))) (places-front (s .args .set .marks) (l .places .result) (l .places .ensures)) in
+    let same = ap (λ (z : List ℕ). length (spaced (numbers z))) (places-front (s .args .set .marks) (l .places-of .result) (l .places-of .ensures)) in
     omega (arith, s .pre, redundant-length (s .args .set), e0 .next-is, appending.same-length e0, e1 .next-is, appending.same-length e1, e2 .next-is, appending.same-length e2, same)
 
 same-length : tie.Need-same-length
@@ -84,14 +84,14 @@ returns c =
     let e0 = c0 .put-word .ensures in
     let l = c0 .before .before .before .before .before in
     let s = l .before .before .before in
-    let same = places-front (s .args .set .marks) (l .places .result) (l .places .ensures) in
+    let same = places-front (s .args .set .marks) (l .places-of .result) (l .places-of .ensures) in
     appending.renamed (redundant-pieces (s .args .set)) (appending.followed (appending.followed (appending.followed e0 e1) (appending.renamed (ap (λ (z : List ℕ). spaced (numbers z)) same) e2)) e3)
 
 pub put-redundant-line-spec : {M : Type 1} → statement M
 put-redundant-line-spec =
     tie.close
     (tie.spec
-    places-requires
+    places-of-requires
     cast-end
     slice-aggregate-put-word
     put-word-requires

@@ -11,7 +11,7 @@ use lib.ListN.{length}
 use Rattle.model.specs.Lists.{keep, tabulate}
 use Rattle.model.specs.Tasks.{Edge}
 use Rattle.records.specs.Columns.{heldEdge, at}
-use Rattle.counts.specs.Counts.{subsumesBy}
+use Rattle.subsumption.specs.Subsumption.{subsumesBy}
 use Rattle.results.specs.Fronts.{HeldFront}
 use Rattle.results.proofs.Keeping.{keep-more, keep-same}
 use Rattle.results.proofs.Fronts.{held-none, held-more, held-same, tabulate-more}

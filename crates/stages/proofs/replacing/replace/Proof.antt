@@ -8,7 +8,7 @@ use lib.ListN.{length}
 use Rattle.model.specs.Lists.{keep}
 use Rattle.model.specs.Tasks.{Edge}
 use Rattle.model.specs.Plan.{pairEdge, withPair}
-use Rattle.counts.specs.Counts.{subsumesBy}
+use Rattle.subsumption.specs.Subsumption.{subsumesBy}
 use Rattle.results.proofs.Fronts.{held-more, held-same, held-edges}
 use Rattle.stages.proofs.Staged.{front-few, front-ends}
 use borrow.Author.Needs.{needs}

@@ -1,0 +1,5 @@
+-- The proofs that other crates may cite.
+pub mod Answers
+pub mod Meanings
+pub mod Lists
+pub mod Example

@@ -1,0 +1,2 @@
+pub mod LeastDelays
+pub mod Theorems

@@ -1,3 +1,0 @@
--- The proofs that other crates may cite.
-pub mod Needing
-pub mod Given

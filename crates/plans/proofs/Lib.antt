@@ -1,2 +1,0 @@
--- The proofs that other crates may cite.
-pub mod Beginning

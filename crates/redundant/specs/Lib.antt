@@ -1,0 +1,2 @@
+pub mod Redundant
+pub mod Theorems

@@ -1,4 +1,0 @@
-pub mod Calls
-pub mod Plan
-pub mod Theorems
-pub mod Verdict
