@@ -9,11 +9,10 @@ use crate::folder;
 const USAGE: &str = "\
 usage: desk write FILE FOLDER   makes graph.bin, and proposal.bin if there is a proposal, from the description FILE
        desk read FOLDER         prints the description of the files in FOLDER
-       desk help                prints how a description is written
-";
+       desk help                prints how a description is written";
 const FORMAT: &str = include_str!("../FORMAT.md");
 
-/// Runs the command and gives its exit status: 0, 1 for an error, which is told in one line, 2 for a command that is not one.
+/// Runs the command and gives its exit status: 0, 1 for an error, which is told as compilers tell theirs, 2 for a command that is not one.
 pub fn run(arguments: &[OsString], out: &mut impl Write, err: &mut impl Write) -> u8 {
     let done = match arguments {
         [word, text, folder] if word == "write" => {
@@ -26,10 +25,9 @@ pub fn run(arguments: &[OsString], out: &mut impl Write, err: &mut impl Write) -
         [word, folder] if word == "read" => {
             folder::read(Path::new(folder)).and_then(|text| print(out, &text))
         }
-        [word] if word == "help" || word == "--help" => print(out, &format!("{USAGE}\n{FORMAT}")),
+        [word] if word == "help" || word == "--help" => print(out, &format!("{USAGE}\n\n{FORMAT}")),
         _ => {
-            // An error that cannot be told is still in the exit status.
-            let _ = err.write_all(USAGE.as_bytes());
+            tell(err, USAGE);
             return 2;
         }
     };
@@ -45,9 +43,10 @@ pub fn run(arguments: &[OsString], out: &mut impl Write, err: &mut impl Write) -
 fn print(out: &mut impl Write, text: &str) -> Result<(), String> {
     out.write_all(text.as_bytes())
         .and_then(|()| out.flush())
-        .map_err(|error| format!("standard output: {error}"))
+        .map_err(|error| format!("standard output: error: {error}"))
 }
 
-fn tell(err: &mut impl Write, line: &str) {
-    let _ = writeln!(err, "desk: {line}");
+/// An error that cannot be told is still in the exit status.
+fn tell(err: &mut impl Write, lines: &str) {
+    let _ = writeln!(err, "{lines}");
 }
