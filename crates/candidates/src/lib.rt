@@ -35,7 +35,7 @@ pub fn zero_diagonal(table: &mut [u16], tasks: usize)
 }
 
 // A number, cut at 32,767.
-fn cut(x: u32) -> u16
+fn capped(x: u32) -> u16
     ensures { λ r. ⌜ r ≡ min x 32767 ⌝ }
 {
     if x < LAST as u32 {
@@ -49,7 +49,7 @@ fn units(time: u32, power: u32) -> u16
     requires { ⌜ power < 32 ⌝ }
     ensures { λ r. ⌜ r ≡ unitsOf power time ⌝ }
 {
-    cut(time >> power)
+    capped(time >> power)
 }
 
 // Writes times in units to the first places of a row.
@@ -181,7 +181,7 @@ pub fn best_pair<'a>(
     let mut a = 0;
     while a < tasks {
         let start = a * WIDTH;
-        let least = cut(best.gain);
+        let least = capped(best.gain);
         if may_exceed(counts, to, start, least, end[a], &fine, &coarse) {
             best = best_counted(
                 &counts[start..start + WIDTH],

@@ -25,7 +25,7 @@ use Rattle.readings.specs.Working.{proposalReading}
 use Rattle.acceptance.specs.declared.Acceptance.{Acceptance}
 use Rattle.acceptance.specs.Acceptance.{acceptance}
 use Rattle.judgement.specs.declared.Judgement.{Judgement}
-use Rattle.judgement.specs.Judgement.{someOnCycle, judgedRefusal, timed, judgement, OpenPlace}
+use Rattle.judgement.specs.Judgement.{someOnCycle, judgedRefusal, tellsLatency, judgement, OpenPlace}
 use Rattle.judgement.specs.Theorems.{Sentenced, cycle-made, order-lost, late, accepted}
 use Rattle.judgement.proofs.Chain.{stops-13}
 use Rattle.judgement.proofs.Tested.{some-on-cycle}
@@ -44,7 +44,7 @@ module _ (g : Graph) (proposed : List Edge) where
   judged-alike : (here there : ℕ) → judgedRefusal g proposed here ≡ judgedRefusal g proposed there → judgement g proposed here ≡ judgement g proposed there
   unfolding judgement
   judged-alike here there same =
-      ap (λ (r : Refusal). record { refusal = r; latency = counted (timed (r .number)) (latencyOf (result g proposed)) }) same
+      ap (λ (r : Refusal). record { refusal = r; latency = counted (tellsLatency (r .number)) (latencyOf (result g proposed)) }) same
 
   -- a judgement gives the place that it is made with, if it is 13
   place-given : someOnCycle g proposed ≡ true → (place : ℕ) → judgement g proposed place .refusal ≡ record { number = 13; place = place }

@@ -11,13 +11,13 @@ use lib.IntN.{pos, negsuc}
 use lib.ListN.{length, drop, getD}
 use Rattle.bits.specs.Bits.{bitAt, field}
 use Rattle.model.specs.Lists.{tabulate, anyBelow, counted}
-use Rattle.model.specs.Tasks.{Edge, processorOf}
+use Rattle.model.specs.Tasks.{Edge, processorOf, edge}
 use Rattle.model.specs.Processors.{processorEdges}
 use Rattle.model.specs.Graph.{Graph, count, edges, timeOf}
 use Rattle.model.specs.Paths.{syncAt}
 use Rattle.model.specs.Compute.{leastDelay, isRedundant, sameEdge, zeroCycle, inputFree, joined, earliest, latency, latencyOf, onCycle, orderHolds}
 use Rattle.model.specs.Proposals.{result}
-use Rattle.model.specs.Example.{edge, deskBound, looped as loopedEdges}
+use Rattle.model.specs.Example.{deskBound, looped as loopedEdges}
 use Rattle.model.specs.Plan.{Planned, planOf, planLatency}
 use Rattle.model.proofs.Example.{desk-on-cycle, desk-plan, desk-plan-at-nine}
 use Rattle.records.specs.Columns.{rows}
@@ -44,7 +44,7 @@ use Rattle.verdict.specs.Verdict.{VerdictAnswer, verdictOf, verdictRefusal, tol
 use Rattle.verdict.specs.declared.ProposalVerdict.{ProposalVerdict}
 use Rattle.plan.proofs.Meanings.{plan-given, plan-plain}
 use Rattle.plan.specs.Plan.{planRefusal, planAnswerOf, planAfter}
-use Rattle.claims.specs.Cases.{Case, delays, first-word, starts, plan, verdict, on-cycle, accepted, refused, Holds, deskFile, desk, exampleProposal, emptyProposal, firstOnly, delayed, looped, cases, AllHold}
+use Rattle.claims.specs.Cases.{Case, delays, first-word, starts, plan, verdict, on-cycle, accepted, refused, Holds, deskFile, exampleFile, exampleProposal, emptyProposal, firstOnly, delayed, loopedFile, cases, AllHold}
 use Rattle.least_delays.proofs.Meanings.{delays-plain}
 use Rattle.timetable.proofs.Given.{timetable-plain}
 
@@ -77,7 +77,7 @@ module _ (byte : ℕ) {l : ℕ} (bound : graphOf (deskFile byte) .bound ≡ l) w
   desk-checked is = λ i. first (desk-formed byte i ∷ (ap scheduleRefusal (desk-read byte bound) ∙ desk-judged l is) i ∷ [])
 
 -- the four desks
-desk-is : graphOf desk ≡ deskBound 12
+desk-is : graphOf exampleFile ≡ deskBound 12
 desk-is = desk-read 12 (bounds .0)
 
 desk-10-is : graphOf (deskFile 10) ≡ deskBound 10
@@ -86,7 +86,7 @@ desk-10-is = desk-read 10 (bounds .1)
 desk-9-is : graphOf (deskFile 9) ≡ deskBound 9
 desk-9-is = desk-read 9 (bounds .2)
 
-desk-passes : acceptanceRefusal desk ≡ notRefused
+desk-passes : acceptanceRefusal exampleFile ≡ notRefused
 unfolding first choose refuse
 desk-passes = desk-checked 12 (bounds .0) refl
 
@@ -104,41 +104,41 @@ desk-8-refused = desk-checked 8 (bounds .3) refl
 
 -- ── Least delays, marks and starts ──
 
-desk-accepted : AcceptedFile desk
-desk-accepted = accepted-iff-passed desk .0 (number-same desk-passes)
+desk-accepted : AcceptedFile exampleFile
+desk-accepted = accepted-iff-passed exampleFile .0 (number-same desk-passes)
 
-four-tasks : tasksOf desk ≡ 4
+four-tasks : tasksOf exampleFile ≡ 4
 unfolding tasksOf
 four-tasks = ap count desk-is
 
-desk-table : tableOf desk ≡ 1 ∷ 0 ∷ 0 ∷ 0 ∷ 1 ∷ 1 ∷ 1 ∷ 0 ∷ 65535 ∷ 65535 ∷ 1 ∷ 0 ∷ 65535 ∷ 65535 ∷ 1 ∷ 1 ∷ []
+desk-table : tableOf exampleFile ≡ 1 ∷ 0 ∷ 0 ∷ 0 ∷ 1 ∷ 1 ∷ 1 ∷ 0 ∷ 65535 ∷ 65535 ∷ 1 ∷ 0 ∷ 65535 ∷ 65535 ∷ 1 ∷ 1 ∷ []
 unfolding tableOf tasksOf delayTable delayRow entry rows tabulate edges processorEdges leastDelay
 desk-table = ap (λ (g : Graph). delayTable (count g) (edges g)) desk-is
 
-desk-starts : startsOf desk 2 ≡ 0 ∷ 2 ∷ 2 ∷ 5 ∷ 5 ∷ 7 ∷ 9 ∷ 10 ∷ []
+desk-starts : startsOf exampleFile 2 ≡ 0 ∷ 2 ∷ 2 ∷ 5 ∷ 5 ∷ 7 ∷ 9 ∷ 10 ∷ []
 unfolding startsOf tasksOf turnRows turnRow rows tabulate edges processorEdges timeOf earliest
 desk-starts = ap (λ (g : Graph). turnRows (count g) (edges g) (timeOf g) 2) desk-is
 
-delays-hold : Holds (delays desk (1 ∷ 0 ∷ 0 ∷ 0 ∷ 1 ∷ 1 ∷ 1 ∷ 0 ∷ 65535 ∷ 65535 ∷ 1 ∷ 0 ∷ 65535 ∷ 65535 ∷ 1 ∷ 1 ∷ []))
+delays-hold : Holds (delays exampleFile (1 ∷ 0 ∷ 0 ∷ 0 ∷ 1 ∷ 1 ∷ 1 ∷ 0 ∷ 65535 ∷ 65535 ∷ 1 ∷ 0 ∷ 65535 ∷ 65535 ∷ 1 ∷ 1 ∷ []))
 unfolding outcome delaysAfter
 delays-hold lent room =
-    let none = delays-given desk (length lent) .1 (desk-accepted, subst (λ (n : ℕ). n * n ≤ length lent) (sym four-tasks) room) in (
-      ap outcome (delays-plain desk (length lent) none),
-      if-passed (delaysRefusal desk (length lent) .number) (tableOf desk ++ drop (tasksOf desk * tasksOf desk) lent) lent none ∙
+    let none = delays-given exampleFile (length lent) .1 (desk-accepted, subst (λ (n : ℕ). n * n ≤ length lent) (sym four-tasks) room) in (
+      ap outcome (delays-plain exampleFile (length lent) none),
+      if-passed (delaysRefusal exampleFile (length lent) .number) (tableOf exampleFile ++ drop (tasksOf exampleFile * tasksOf exampleFile) lent) lent none ∙
           (λ i. desk-table i ++ drop (four-tasks i * four-tasks i) lent),
     )
 
-starts-hold : Holds (starts desk 2 (0 ∷ 2 ∷ 2 ∷ 5 ∷ 5 ∷ 7 ∷ 9 ∷ 10 ∷ []))
+starts-hold : Holds (starts exampleFile 2 (0 ∷ 2 ∷ 2 ∷ 5 ∷ 5 ∷ 7 ∷ 9 ∷ 10 ∷ []))
 unfolding outcome timetableAfter
 starts-hold lent room =
-    let enough : tasksOf desk * 2 ≤ length lent = subst (λ (n : ℕ). n * 2 ≤ length lent) (sym four-tasks) room in
-    let none = timetable-given desk 2 (length lent) .1 (omega arith, omega arith, desk-accepted, enough) in (
-      ap outcome (timetable-plain desk 2 (length lent) none),
-      if-passed (timetableRefusal desk 2 (length lent) .number) (startsOf desk 2 ++ drop (tasksOf desk * 2) lent) lent none ∙
+    let enough : tasksOf exampleFile * 2 ≤ length lent = subst (λ (n : ℕ). n * 2 ≤ length lent) (sym four-tasks) room in
+    let none = timetable-given exampleFile 2 (length lent) .1 (omega arith, omega arith, desk-accepted, enough) in (
+      ap outcome (timetable-plain exampleFile 2 (length lent) none),
+      if-passed (timetableRefusal exampleFile 2 (length lent) .number) (startsOf exampleFile 2 ++ drop (tasksOf exampleFile * 2) lent) lent none ∙
           (λ i. desk-starts i ++ drop (four-tasks i * 2) lent),
     )
 
-marks-hold : Holds (first-word desk 0x2000000000000000)
+marks-hold : Holds (first-word exampleFile 0x2000000000000000)
 unfolding outcome redundantOf ifPassed marksOf wordOf number counted edges processorEdges isRedundant
 marks-hold = (ap outcome desk-passes, λ i. getD (ifPassed (desk-passes i .number) (marksOf (isRedundant (desk-is i))) noMarks .words) 0 0)
 
@@ -156,13 +156,13 @@ withDelay = edge 1 2 1 ∷ []
 
 proposals-read :
     (proposalOf exampleProposal ≡ example) × (proposalOf emptyProposal ≡ []) × (proposalOf firstOnly ≡ onlyFirst) × (proposalOf delayed ≡ withDelay) ×
-    (proposalOf looped ≡ loopedEdges)
+    (proposalOf loopedFile ≡ loopedEdges)
 unfolding proposalOf edgesFrom proposalHeader edgeAt tabulate field bitAt
 proposals-read = (refl, refl, refl, refl, refl)
 
 proposals-formed :
     (proposalRefusal 4 exampleProposal ≡ notRefused) × (proposalRefusal 4 emptyProposal ≡ notRefused) × (proposalRefusal 4 firstOnly ≡ notRefused) ×
-    (proposalRefusal 4 delayed ≡ notRefused) × (proposalRefusal 4 looped ≡ notRefused)
+    (proposalRefusal 4 delayed ≡ notRefused) × (proposalRefusal 4 loopedFile ≡ notRefused)
 unfolding proposalRefusal proposalFrameRefusal proposalHeaderRefusal lengthRefusal zerosRefusal fillingRefusal filling proposedEdgesRefusal firstOf first choose refuse
     endsRefusal endOutside repeatRefusal repeatsEarlier anyBelow sameEdge edgeIn proposalBits proposalOf edgesFrom proposalHeader edgeAt tabulate field bitAt
 proposals-formed = (refl, refl, refl, refl, refl)
@@ -234,12 +234,12 @@ only-answer s p answer other always r = (
       },
 )
 
-example-12 : Holds (verdict desk exampleProposal (accepted 10 (pos 2)))
+example-12 : Holds (verdict exampleFile exampleProposal (accepted 10 (pos 2)))
 unfolding put toldLate first choose ifPassed counted countedMargin margin
 example-12 =
-    only-answer desk exampleProposal (accepted 10 (pos 2)) (λ z. omega arith)
+    only-answer exampleFile exampleProposal (accepted 10 (pos 2)) (λ z. omega arith)
     (λ place.
-    desk-verdict desk exampleProposal desk-is desk-passes (proposals-read .0) (proposals-formed .0) place (example-judged place .0) ∙
+    desk-verdict exampleFile exampleProposal desk-is desk-passes (proposals-read .0) (proposals-formed .0) place (example-judged place .0) ∙
     ap (put notRefused notRefused notRefused 12) (example-latency .0))
 
 example-10 : Holds (verdict (deskFile 10) exampleProposal (accepted 10 (pos 0)))
@@ -268,30 +268,30 @@ example-8 =
     put a (proposalRefusal (tasksOf (deskFile 8)) exampleProposal) (judgedRefusal (graphOf (deskFile 8)) (proposalOf exampleProposal) place)
     (graphOf (deskFile 8) .bound) (resultLatency (deskFile 8) exampleProposal)) desk-8-refused)
 
-empty-loses : Holds (verdict desk emptyProposal (refused 14 1 0 (pos 0)))
+empty-loses : Holds (verdict exampleFile emptyProposal (refused 14 1 0 (pos 0)))
 unfolding put toldLate first choose ifPassed counted countedMargin
 empty-loses =
-    only-answer desk emptyProposal (refused 14 1 0 (pos 0)) (λ z. omega arith)
-    (λ place. desk-verdict desk emptyProposal desk-is desk-passes (proposals-read .1) (proposals-formed .1) place (others-judged place .0))
+    only-answer exampleFile emptyProposal (refused 14 1 0 (pos 0)) (λ z. omega arith)
+    (λ place. desk-verdict exampleFile emptyProposal desk-is desk-passes (proposals-read .1) (proposals-formed .1) place (others-judged place .0))
 
-first-loses : Holds (verdict desk firstOnly (refused 14 2 0 (pos 0)))
+first-loses : Holds (verdict exampleFile firstOnly (refused 14 2 0 (pos 0)))
 unfolding put toldLate first choose ifPassed counted countedMargin
 first-loses =
-    only-answer desk firstOnly (refused 14 2 0 (pos 0)) (λ z. omega arith)
-    (λ place. desk-verdict desk firstOnly desk-is desk-passes (proposals-read .2) (proposals-formed .2) place (others-judged place .1))
+    only-answer exampleFile firstOnly (refused 14 2 0 (pos 0)) (λ z. omega arith)
+    (λ place. desk-verdict exampleFile firstOnly desk-is desk-passes (proposals-read .2) (proposals-formed .2) place (others-judged place .1))
 
-delayed-loses : Holds (verdict desk delayed (refused 14 1 0 (pos 0)))
+delayed-loses : Holds (verdict exampleFile delayed (refused 14 1 0 (pos 0)))
 unfolding put toldLate first choose ifPassed counted countedMargin
 delayed-loses =
-    only-answer desk delayed (refused 14 1 0 (pos 0)) (λ z. omega arith)
-    (λ place. desk-verdict desk delayed desk-is desk-passes (proposals-read .3) (proposals-formed .3) place (others-judged place .2))
+    only-answer exampleFile delayed (refused 14 1 0 (pos 0)) (λ z. omega arith)
+    (λ place. desk-verdict exampleFile delayed desk-is desk-passes (proposals-read .3) (proposals-formed .3) place (others-judged place .2))
 
 -- ── 13 ──
 
-looped-verdict : (place : ℕ) → verdictOf desk looped place ≡ refused 13 place 0 (pos 0)
+looped-verdict : (place : ℕ) → verdictOf exampleFile loopedFile place ≡ refused 13 place 0 (pos 0)
 unfolding put toldLate first choose ifPassed counted countedMargin
 looped-verdict place =
-    desk-verdict desk looped desk-is desk-passes (proposals-read .4) (proposals-formed .4) place (others-judged place .3)
+    desk-verdict exampleFile loopedFile desk-is desk-passes (proposals-read .4) (proposals-formed .4) place (others-judged place .3)
 
 -- a place of three edges is 1, 2 or 3
 one-of-three : {place : ℕ} (before : ℕ) → place ≡ suc before → before < 3 → List·Memᴰ place (1 ∷ 2 ∷ 3 ∷ [])
@@ -309,10 +309,10 @@ open-place place (there (there (here is))) =
     record { before = 2; place-is = is; present = lit< tt; on-cycle = desk-on-cycle (edge 3 0 1) (there (there (here refl))) }
 open-place place (there (there (there m))) = absurd (List·Memᴰ·not-nil m)
 
-looped-on-cycle : Holds (on-cycle desk looped (1 ∷ 2 ∷ 3 ∷ []))
+looped-on-cycle : Holds (on-cycle exampleFile loopedFile (1 ∷ 2 ∷ 3 ∷ []))
 looped-on-cycle r = (to, back)
   where
-    to : VerdictAnswer desk looped r → (place : ℕ) × List·Memᴰ place (1 ∷ 2 ∷ 3 ∷ []) × (r ≡ refused 13 place 0 (pos 0))
+    to : VerdictAnswer exampleFile loopedFile r → (place : ℕ) × List·Memᴰ place (1 ∷ 2 ∷ 3 ∷ []) × (r ≡ refused 13 place 0 (pos 0))
     to h =
         let is : r ≡ refused 13 (r .outcome .place) 0 (pos 0) = h .settled ∙ looped-verdict (r .outcome .place) in
         let found = h .left-open (ap (λ (x : ProposalVerdict). x .outcome .number) is) in (
@@ -321,14 +321,14 @@ looped-on-cycle r = (to, back)
           is,
         )
 
-    back : (place : ℕ) × List·Memᴰ place (1 ∷ 2 ∷ 3 ∷ []) × (r ≡ refused 13 place 0 (pos 0)) → VerdictAnswer desk looped r
+    back : (place : ℕ) × List·Memᴰ place (1 ∷ 2 ∷ 3 ∷ []) × (r ≡ refused 13 place 0 (pos 0)) → VerdictAnswer exampleFile loopedFile r
     back (place, listed, is) =
         let same : place ≡ r .outcome .place = sym (ap (λ (x : ProposalVerdict). x .outcome .place) is) in
         record {
-          settled = is ∙ (sym (looped-verdict place) ∙ ap (verdictOf desk looped) same);
+          settled = is ∙ (sym (looped-verdict place) ∙ ap (verdictOf exampleFile loopedFile) same);
           left-open = λ thirteen.
-              subst (OpenPlace (graphOf desk) (proposalOf looped)) same
-              (subst (λ (es : List Edge). OpenPlace (graphOf desk) es place) (sym (proposals-read .4))
+              subst (OpenPlace (graphOf exampleFile) (proposalOf loopedFile)) same
+              (subst (λ (es : List Edge). OpenPlace (graphOf exampleFile) es place) (sym (proposals-read .4))
               (subst (λ (g : Graph). OpenPlace g loopedEdges place) (sym desk-is) (open-place place listed)));
         }
 
@@ -364,7 +364,7 @@ module _ (byte l : ℕ) (es : List Edge) (steps latency : ℕ) (is : graphOf (de
       passed : (given refused : ℕ) → ifPassed number given refused ≡ given
       passed given refused = if-passed number given refused none
 
-plan-at-12 : Holds (plan desk (edge 1 2 0 ∷ []) 1 10)
+plan-at-12 : Holds (plan exampleFile (edge 1 2 0 ∷ []) 1 10)
 plan-at-12 = plan-holds 12 12 (edge 1 2 0 ∷ []) 1 10 desk-is desk-accepted (desk-plan .0) (desk-plan .1)
 
 plan-at-9 : Holds (plan (deskFile 9) (edge 0 2 0 ∷ edge 1 3 0 ∷ []) 0 9)

@@ -36,7 +36,7 @@ use Rattle.marks.specs.Marks.{bitOf, markAt, setBelow, placesBelow, placesOf}
 use Rattle.marks.proofs.Listed.{places-counted, places-ascend}
 use Rattle.delays.specs.Delays.{entry}
 use Rattle.judgement.specs.Theorems.{Sentenced, cycle-made, order-lost, late, accepted}
-use Rattle.judgement.proofs.Meanings.{result-latency}
+use Rattle.judgement.proofs.Meanings.{judged-latency}
 use Rattle.acceptance.specs.Outcomes.{outcome, tasksOf}
 use Rattle.acceptance.specs.Theorems.{AcceptedFile}
 use Rattle.figures.proofs.Meanings.{figures-given, figures-mean, figures-run}
@@ -200,7 +200,7 @@ module _ (s p : List ℕ) (r : ProposalVerdict) (answer : VerdictAnswer s p r) w
   module _ (graph : AcceptedFile s) (formed : WellFormedFile s p) (off : NoneOnCycle (edges (result (graphOf s) (proposalOf p))) (proposalOf p)) where
     latency-meant : Latency (edges (result (graphOf s) (proposalOf p))) (timeOf (graphOf s)) (graphOf s .output) (resultLatency s p)
     unfolding resultLatency
-    latency-meant = result-latency (graphOf s) (proposalOf p) (graph .1) (edges-formed s p r answer graph formed) off
+    latency-meant = judged-latency (graphOf s) (proposalOf p) (graph .1) (edges-formed s p r answer graph formed) off
 
     misses-iff : MissesBound (result (graphOf s) (proposalOf p)) ↔ (graphOf s .bound < resultLatency s p)
     unfolding resultLatency
@@ -347,7 +347,7 @@ demand2-met =
       plan-latency = λ s list passed. plan-means s list (plan-not-refused s (length list) passed) .2;
       plan-few = plan-small;
       plan-past = plan-past;
-      result-latency = λ s p r answer given. subst (Latency _ _ _) (sym (latency-told s p r answer given)) (accepted-told s p r answer given .0);
+      judged-latency = λ s p r answer given. subst (Latency _ _ _) (sym (latency-told s p r answer given)) (accepted-told s p r answer given .0);
       margin = margin-told;
       in-time = λ s p r answer given.
           let low = subst (λ (l : ℕ). l ≤ graphOf s .bound) (sym (latency-told s p r answer given)) (accepted-told s p r answer given .1) in

@@ -26,7 +26,7 @@ use Rattle.files.specs.declared.Refusal.{Refusal}
 use Rattle.files.specs.Refusals.{notRefused}
 use Rattle.files.specs.Files.{graphOf, proposalOf}
 use Rattle.files.proofs.First.{none-refused}
-use Rattle.judgement.specs.Judgement.{judgedRefusal, timed, judgement}
+use Rattle.judgement.specs.Judgement.{judgedRefusal, tellsLatency, judgement}
 use Rattle.judgement.specs.Theorems.{Sentenced, cycle-made, order-lost, late, accepted}
 use Rattle.judgement.proofs.Meanings.{accepted-by-paths}
 use Rattle.acceptance.specs.Outcomes.{tasksOf}
@@ -170,10 +170,10 @@ module _ (s : List ℕ) (list : List EdgeRecord) (passed : planRefusal s (length
   own-judged place = none-refused _ (accepted-by-paths g (planOf g .list) (graph-accepted .1) (own-stage .0) place .1 (own-stage .1))
 
   own-judgement : (place : ℕ) → judgement g (planOf g .list) place ≡ record { refusal = notRefused; latency = planAnswerOf s (length list) .latency }
-  unfolding judgement timed counted planLatency
+  unfolding judgement tellsLatency counted planLatency
   own-judgement place = λ i. record {
     refusal = own-judged place i;
-    latency = (ap (λ (r : Refusal). counted (timed (r .number)) (latencyOf (result g (planOf g .list)))) (own-judged place) ∙ sym (latency-told s list passed)) i;
+    latency = (ap (λ (r : Refusal). counted (tellsLatency (r .number)) (latencyOf (result g (planOf g .list)))) (own-judged place) ∙ sym (latency-told s list passed)) i;
   }
 
   planned :

@@ -32,7 +32,7 @@ use Rattle.acceptance.proofs.Judged.{accepted-iff-passed}
 use Rattle.judgement.specs.Judgement.{someOnCycle, lostRefusal, judgedRefusal, OpenPlace}
 use Rattle.judgement.specs.Theorems.{Sentenced, cycle-made, order-lost, late, accepted, FirstLost}
 use Rattle.judgement.proofs.Tested.{off-cycles-of}
-use Rattle.judgement.proofs.Meanings.{sentenced-iff, lost-place, result-latency}
+use Rattle.judgement.proofs.Meanings.{sentenced-iff, lost-place, judged-latency}
 use Rattle.acceptance.specs.Outcomes.{tasksOf}
 use Rattle.verdict.specs.Verdict.{margin, verdictRefusal, countedMargin, toldLate, resultLatency, verdictOf, VerdictAnswer}
 use Rattle.verdict.specs.declared.ProposalVerdict.{ProposalVerdict}
@@ -124,7 +124,7 @@ module _ (g : Graph) (proposed : List Edge) (graph : AcceptedGraph g) (formed : 
       NoneOnCycle (edges (result g proposed)) proposed →
       Latency (edges (result g proposed)) (timeOf (result g proposed)) (result g proposed .output) (latencyOf (result g proposed))
   unfolding result timeOf
-  latest off = result-latency g proposed graph formed off
+  latest off = judged-latency g proposed graph formed off
 
   missed : NoneOnCycle (edges (result g proposed)) proposed → MissesBound (result g proposed) → result g proposed .bound < latencyOf (result g proposed)
   unfolding result

@@ -6,8 +6,7 @@ use mathlib.Core.List.{List, [], _∷_, _++_, List·Memᴰ}
 use Prim.Native.Nat.{ℕ, _≤_}
 use lib.IntN.{ℤ, pos, negsuc}
 use lib.ListN.{length, drop, getD}
-use Rattle.model.specs.Tasks.{Edge}
-use Rattle.model.specs.Example.{edge}
+use Rattle.model.specs.Tasks.{Edge, edge}
 use Rattle.layout.specs.declared.EdgeRecord.{EdgeRecord}
 use Rattle.files.specs.Files.{graphOf}
 use Rattle.stages.specs.Stages.{writtenInto}
@@ -77,8 +76,8 @@ deskFile bound =
     0x08 ∷ 0x40 ∷ 0x18 ∷ 0x01 ∷ 0x80 ∷ 0x00 ∷ bound ∷ 0x00 ∷ 0x00 ∷ 0x20 ∷ 0x00 ∷ 0x03 ∷ 0x10 ∷ 0x00 ∷ 0x11 ∷ 0x00 ∷ 0x04 ∷ 0x00 ∷ 0x20 ∷ 0x00 ∷ 0x43 ∷
     0x00 ∷ 0x00 ∷ 0x30 ∷ 0x00 ∷ []
 
-abbrev pub desk : List ℕ
-desk = deskFile 0x0C
+abbrev pub exampleFile : List ℕ
+exampleFile = deskFile 0x0C
 
 -- "Proposal bytes for 1→2, delay 0: 08 04 04 20 00."
 abbrev pub exampleProposal : List ℕ
@@ -97,8 +96,8 @@ abbrev pub delayed : List ℕ
 delayed = 0x08 ∷ 0x04 ∷ 0x04 ∷ 0x20 ∷ 0x10 ∷ []
 
 -- 0→2 and 1→3, delay 0, and 3→0, delay 1
-abbrev pub looped : List ℕ
-looped = 0x08 ∷ 0x0C ∷ 0x00 ∷ 0x20 ∷ 0x00 ∷ 0x43 ∷ 0x00 ∷ 0x0C ∷ 0x00 ∷ 0x10 ∷ []
+abbrev pub loopedFile : List ℕ
+loopedFile = 0x08 ∷ 0x0C ∷ 0x00 ∷ 0x20 ∷ 0x00 ∷ 0x43 ∷ 0x00 ∷ 0x0C ∷ 0x00 ∷ 0x10 ∷ []
 
 -- ── The list ──
 
@@ -109,19 +108,19 @@ noPath = 65535
 abbrev pub cases : List Case
 cases =
     -- "P least delays: row 0 is 1 0 0 0; row 1 is 1 1 1 0; row 2 none none 1 0; row 3 none none 1 1."
-    delays desk
+    delays exampleFile
     (1 ∷ 0 ∷ 0 ∷ 0 ∷
     1 ∷ 1 ∷ 1 ∷ 0 ∷
     noPath ∷ noPath ∷ 1 ∷ 0 ∷
     noPath ∷ noPath ∷ 1 ∷ 1 ∷ [])
     -- "P first word of marks: 2000000000000000 hexadecimal."
-    ∷ first-word desk 0x2000000000000000
+    ∷ first-word exampleFile 0x2000000000000000
     -- "P starts: 0 2 2 5, then 5 7 9 10."
-    ∷ starts desk 2
+    ∷ starts exampleFile 2
     (0 ∷ 2 ∷ 2 ∷ 5 ∷
     5 ∷ 7 ∷ 9 ∷ 10 ∷ [])
     -- "accepted 10 2"
-    ∷ verdict desk exampleProposal (accepted 10 (pos 2))
+    ∷ verdict exampleFile exampleProposal (accepted 10 (pos 2))
     -- "Example proposal: P bound 10: accepted, margin 0."
     ∷ verdict (deskFile 10) exampleProposal (accepted 10 (pos 0))
     -- "P bound 9: refusal 15, latency 10, margin −1." (`negsuc 0` is −1)
@@ -129,15 +128,15 @@ cases =
     -- "P bound 8: 12."
     ∷ verdict (deskFile 8) exampleProposal (refused 12 0 0 (pos 0))
     -- "P empty proposal: 14, place 1."
-    ∷ verdict desk emptyProposal (refused 14 1 0 (pos 0))
+    ∷ verdict exampleFile emptyProposal (refused 14 1 0 (pos 0))
     -- "P only 0→2: 14, place 2."
-    ∷ verdict desk firstOnly (refused 14 2 0 (pos 0))
+    ∷ verdict exampleFile firstOnly (refused 14 2 0 (pos 0))
     -- "P 1→2 with delay 1: 14, place 1."
-    ∷ verdict desk delayed (refused 14 1 0 (pos 0))
+    ∷ verdict exampleFile delayed (refused 14 1 0 (pos 0))
     -- "P 0→2, 1→3, and 3→0 with delay 1: 13, place 1, 2 or 3."
-    ∷ on-cycle desk looped (1 ∷ 2 ∷ 3 ∷ [])
+    ∷ on-cycle exampleFile loopedFile (1 ∷ 2 ∷ 3 ∷ [])
     -- "P plan: 1→2, one step, latency 10."
-    ∷ plan desk (edge 1 2 0 ∷ []) 1 10
+    ∷ plan exampleFile (edge 1 2 0 ∷ []) 1 10
     -- "P at bound 9: 0→2, 1→3, no step." (Latency 9 is the graph's own, as "graph 4 3 9" says.)
     ∷ plan (deskFile 9) (edge 0 2 0 ∷ edge 1 3 0 ∷ []) 0 9
     ∷ []

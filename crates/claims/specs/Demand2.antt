@@ -151,7 +151,7 @@ pub record Demand2 : Type 0 where
       ((i : ℕ) → planAnswerOf s (length list) .length ≤ i → getD (planAfter s list) i missing ≡ getD list i missing)
   -- ── Latency of the result of a proposal ──
   -- "Verdict: latency of the result": of a proposal that is accepted (by demand 3, exactly those that may be)
-  pub result-latency :
+  pub judged-latency :
       (s p : List ℕ) (r : ProposalVerdict) → VerdictAnswer s p r → r .outcome .number ≡ 0 →
       Latency (edges (result (graphOf s) (proposalOf p))) (timeOf (graphOf s)) (graphOf s .output) (r .latency)
   -- "and margin, which is bound minus latency", here not negative

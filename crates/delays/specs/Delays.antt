@@ -37,7 +37,3 @@ rowsFrom n es a table = withPart (a * n) (n * n) (λ i. getD (delayTable n es) (
 pub record Fit (n : ℕ) (es : List Edge) : Type 0 where
   pub ends : Ends n es
   pub delays : (e : Edge) → e ∈ es → e .delay ≤ 255
-
--- an edge of its three numbers
-abbrev pub edge : ℕ → ℕ → ℕ → Edge
-edge source sink delay = record { source = source; sink = sink; delay = delay }

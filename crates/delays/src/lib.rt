@@ -17,7 +17,7 @@ use reach::has_bit;
 use reach::with_bit;
 
 // No path, in a finished row.
-const NONE: u16 = 65535;
+const NO_PATH: u16 = 65535;
 
 // No path, while delays are worked out: above every least delay, and so small that the sum of two is below 32,768 and can be compared as a signed number.
 pub const FAR: u16 = 16383;
@@ -30,7 +30,7 @@ pub fn has_path(table: &[u16], tasks: usize, from: usize, to: usize) -> bool
     requires { ⌜ (tasks ≤ 64) × (from < tasks) × (to < tasks) × (length (now table) ≡ tasks * tasks) ⌝ }
     ensures { λ r. ⌜ ((es : List Edge) → Fit tasks es → now (table .entry) ≡ delayTable tasks es → r ≡ present (leastDelay tasks es from to)) ⌝ }
 {
-    table[from * tasks + to] != NONE
+    table[from * tasks + to] != NO_PATH
 }
 
 // The smaller of two delays.
@@ -140,7 +140,7 @@ fn widen(entry: u16) -> u16
     ensures { λ r. ⌜ r ≡ widened entry ⌝ }
 {
     if entry == FAR {
-        return NONE;
+        return NO_PATH;
     }
     entry
 }

@@ -46,7 +46,7 @@ use Rattle.results.specs.declared.ResultEdges.{ResultEdges}
 use Rattle.results.specs.Results.{resultIn, resultOf, HeldResult}
 use Rattle.results.proofs.Results.{result-edges-are}
 use Rattle.judgement.specs.declared.Judgement.{Judgement}
-use Rattle.judgement.specs.Judgement.{someOnCycle, lostRefusal, judgedRefusal, timed, judgement, OpenPlace}
+use Rattle.judgement.specs.Judgement.{someOnCycle, lostRefusal, judgedRefusal, tellsLatency, judgement, OpenPlace}
 use Rattle.judgement.specs.Searches.{FoundCyclic, nowhere, somewhere, lostFrom, Judgeable, Made, lostIn, lateIn}
 use Rattle.judgement.specs.Theorems.{FirstLost}
 use Rattle.judgement.proofs.Chain.{stops-13, stops-14, stops-15, passed, some-found, none-found}
@@ -341,11 +341,11 @@ module _ {graph : GraphReading} {proposal : ProposalReading} (judgeable : Judgea
 
   -- a judgement from its refusal
   judged : (place : ℕ) {refusal : Refusal} → judgedRefusal (graphIn graph) proposed place ≡ refusal → (l : ℕ) →
-      l ≡ counted (timed (refusal .number)) (latencyOf (result (graphIn graph) proposed)) → record { refusal = refusal; latency = l } ≡ judgement (graphIn graph) proposed place
+      l ≡ counted (tellsLatency (refusal .number)) (latencyOf (result (graphIn graph) proposed)) → record { refusal = refusal; latency = l } ≡ judgement (graphIn graph) proposed place
   unfolding judgement
   judged place {refusal} is l told =
       (λ i. record { refusal = refusal; latency = told i }) ∙
-      (λ i. record { refusal = sym is i; latency = counted (timed (sym is i .number)) (latencyOf (result (graphIn graph) proposed)) })
+      (λ i. record { refusal = sym is i; latency = counted (tellsLatency (sym is i .number)) (latencyOf (result (graphIn graph) proposed)) })
 
   module _ {cycle : Refusal} (is : cycle ≡ refuse (someOnCycle (graphIn graph) proposed) 13 (cycle .place)) where
     cycle-by : {b : Bool} → someOnCycle (graphIn graph) proposed ≡ b → cycle ≡ refuse b 13 (cycle .place)
@@ -360,14 +360,14 @@ module _ {graph : GraphReading} {proposal : ProposalReading} (judgeable : Judgea
         go true on = let z : _≡_ {A = ℕ} 13 0 = number-same (sym (cycle-by on)) ∙ none in absurd (omega arith)
 
     pub judged-13 : cycle .number ≢ 0 → record { refusal = cycle; latency = 0 } ≡ judgement (graphIn graph) proposed (cycle .place)
-    unfolding refuse counted timed
+    unfolding refuse counted tellsLatency
     judged-13 some = go (someOnCycle (graphIn graph) proposed) refl
       where
         go : (b : Bool) → someOnCycle (graphIn graph) proposed ≡ b → record { refusal = cycle; latency = 0 } ≡ judgement (graphIn graph) proposed (cycle .place)
         go false off = absurd (some (number-same (cycle-by off)))
         go true on =
             judged (cycle .place) (stops-13 (graphIn graph) proposed (cycle .place) on ∙ sym (cycle-by on)) 0
-            (ap (λ (m : ℕ). counted (timed m) (latencyOf (result (graphIn graph) proposed))) (sym (number-same (cycle-by on))))
+            (ap (λ (m : ℕ). counted (tellsLatency m) (latencyOf (result (graphIn graph) proposed))) (sym (number-same (cycle-by on))))
 
   module _ {r : ResultEdges} (held : HeldResult r (edges (result (graphIn graph) proposed))) where
     pub made : Made graph proposed r
@@ -394,10 +394,10 @@ module _ {graph : GraphReading} {proposal : ProposalReading} (judgeable : Judgea
           go (inr found) = number-same (sym first-is ∙ search-stops (graphIn graph) proposed (given .accepted .formed) (judgeable .formed) (found .1))
 
       pub judged-14 : lost .number ≢ 0 → record { refusal = lost; latency = 0 } ≡ judgement (graphIn graph) proposed (lost .place)
-      unfolding counted timed
+      unfolding counted tellsLatency
       judged-14 some =
           judged (lost .place) (stops-14 (graphIn graph) proposed (lost .place) none first-is some) 0
-          (ap (λ (m : ℕ). counted (timed m) (latencyOf (result (graphIn graph) proposed))) (sym (lost-number some)))
+          (ap (λ (m : ℕ). counted (tellsLatency m) (latencyOf (result (graphIn graph) proposed))) (sym (lost-number some)))
 
       module _ (kept : lost .number ≡ 0) {last : Judgement} (late : last ≡ lateIn (graphIn graph) (resultIn r)) where
         nothing-lost : firstOf (length (graphIn graph .syncs)) (lostRefusal (graphIn graph) proposed) ≡ notRefused
@@ -421,7 +421,7 @@ module _ {graph : GraphReading} {proposal : ProposalReading} (judgeable : Judgea
             (λ i. record { refusal = refuse (above i) 15 0; latency = l })
 
         pub judged-last : (last ≡ judgement (graphIn graph) proposed (last .refusal .place)) × (last .refusal .number ≢ 13)
-        unfolding refuse counted timed
+        unfolding refuse counted tellsLatency
         judged-last = go (order l (graphIn graph .bound))
           where
             go : (l ≤ graphIn graph .bound) ⊎ (graphIn graph .bound < l) → (last ≡ judgement (graphIn graph) proposed (last .refusal .place)) × (last .refusal .number ≢ 13)

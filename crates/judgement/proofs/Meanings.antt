@@ -17,7 +17,7 @@ use Rattle.model.proofs.Theorems.{result-orders, result-lost, result-misses, ac
 use Rattle.files.specs.declared.Refusal.{Refusal}
 use Rattle.files.proofs.First.{number-same}
 use Rattle.judgement.specs.Judgement.{judgedRefusal}
-use Rattle.judgement.specs.Theorems.{Sentenced, cycle-made, order-lost, late, accepted, SentencedIff, AcceptedByPaths, FirstLost, LostPlace, ResultLatency}
+use Rattle.judgement.specs.Theorems.{Sentenced, cycle-made, order-lost, late, accepted, SentencedIff, AcceptedByPaths, FirstLost, LostPlace, JudgedLatency}
 use Rattle.judgement.proofs.Chain.{stops-13, stops-14, stops-15, passed}
 use Rattle.judgement.proofs.Tested.{result-fit, some-on-cycle, cycle-test-passes, orders-searched, first-lost, first-of-lost, search-passes, search-stops, off-cycles-of, acyclic-result}
 
@@ -122,7 +122,7 @@ lost-place g proposed graph formed place is = go (sentenced-so g proposed graph 
     go (late q off runs misses) = absurd (omega (arith, q))
     go (accepted q off runs meets) = absurd (omega (arith, q))
 
-pub result-latency : ResultLatency
+pub judged-latency : JudgedLatency
 unfolding result timeOf latencyOf
-result-latency g proposed graph formed off =
+judged-latency g proposed graph formed off =
     latency-is (count g) (edges (result g proposed)) (result-fit g proposed (graph .formed) formed .ends) (acyclic-result g proposed graph formed off) (timeOf g) (g .output)

@@ -11,7 +11,7 @@ use Rattle.model.specs.Compute.{latency, latencyOf}
 use Rattle.model.specs.Proposals.{result, AcceptedGraph}
 use Rattle.files.proofs.First.{number-same}
 use Rattle.starts.proofs.Limits.{turn-fits}
-use Rattle.judgement.specs.Judgement.{someOnCycle, judgedRefusal, timed, judgement}
+use Rattle.judgement.specs.Judgement.{someOnCycle, judgedRefusal, tellsLatency, judgement}
 use Rattle.judgement.proofs.Chain.{stops-13}
 use Rattle.judgement.proofs.Tested.{result-fit, none-on-cycle, acyclic-result}
 
@@ -25,14 +25,14 @@ module _ (g : Graph) (proposed : List Edge) (graph : AcceptedGraph g) (formed : 
       (graph .formed .output-below) (omega arith) (omega arith)
 
   pub told-latency-small : (place : ℕ) → judgement g proposed place .latency ≤ 268435456
-  unfolding judgement counted timed
+  unfolding judgement counted tellsLatency
   told-latency-small place = go (someOnCycle g proposed) refl
     where
       told : (b : Bool) → latencyOf (result g proposed) ≤ 268435456 → counted b (latencyOf (result g proposed)) ≤ 268435456
       told true small = small
       told false small = zero-le
 
-      go : (b : Bool) → someOnCycle g proposed ≡ b → counted (timed (judgedRefusal g proposed place .number)) (latencyOf (result g proposed)) ≤ 268435456
-      go false none = told (timed (judgedRefusal g proposed place .number)) (result-latency-small none)
+      go : (b : Bool) → someOnCycle g proposed ≡ b → counted (tellsLatency (judgedRefusal g proposed place .number)) (latencyOf (result g proposed)) ≤ 268435456
+      go false none = told (tellsLatency (judgedRefusal g proposed place .number)) (result-latency-small none)
       go true some =
-          subst (λ (n : ℕ). counted (timed n) (latencyOf (result g proposed)) ≤ 268435456) (sym (number-same (stops-13 g proposed place some))) zero-le
+          subst (λ (n : ℕ). counted (tellsLatency n) (latencyOf (result g proposed)) ≤ 268435456) (sym (number-same (stops-13 g proposed place some))) zero-le

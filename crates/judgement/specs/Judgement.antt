@@ -34,14 +34,14 @@ judgedRefusal g proposed place =
     ∷ [])
 
 -- the numbers that come with the result's latency: 0, "accepted", and 15, "late"
-unfoldable pub timed : ℕ → Bool
-timed number = eqb number 0 || eqb number 15
+unfoldable pub tellsLatency : ℕ → Bool
+tellsLatency number = eqb number 0 || eqb number 15
 
 -- the judgement of proposed edges: the refusal, and the result's latency where it is told
 unfoldable pub judgement : Graph → List Edge → ℕ → Judgement
 judgement g proposed place = record {
   refusal = judgedRefusal g proposed place;
-  latency = counted (timed (judgedRefusal g proposed place .number)) (latencyOf (result g proposed));
+  latency = counted (tellsLatency (judgedRefusal g proposed place .number)) (latencyOf (result g proposed));
 }
 
 -- "the place given with refusal 13: it is that of a proposed edge on a cycle of the result"

@@ -52,7 +52,7 @@ LostPlace =
     (place : ℕ) → judgedRefusal g proposed place .number ≡ 14 → FirstLost g proposed (judgedRefusal g proposed place .place)
 
 -- The latency that is told is that of the result, where no proposed edge lies on a cycle of it.
-abbrev pub ResultLatency : Type 0
-ResultLatency =
+abbrev pub JudgedLatency : Type 0
+JudgedLatency =
     (g : Graph) (proposed : List Edge) → AcceptedGraph g → WellFormedEdges (count g) proposed → NoneOnCycle (edges (result g proposed)) proposed →
     Latency (edges (result g proposed)) (timeOf g) (g .output) (latencyOf (result g proposed))

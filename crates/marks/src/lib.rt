@@ -19,7 +19,7 @@ pub struct Places {
 }
 
 // How many marks are set: the ones of the four words.
-pub fn count(marks: Marks) -> u32
+pub fn count_set(marks: Marks) -> u32
     ensures { λ r. ⌜ r ≡ setBelow 256 (markAt marks) ⌝ }
 {
     u64::count_ones(marks.words[0])

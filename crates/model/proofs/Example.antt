@@ -8,7 +8,7 @@ use Prim.Native.Nat.{ℕ, _≤_, _<_}
 use native.Mathlib.Nat.{lt-irrefl}
 use lib.Dec.{T, T-not, eqb, leb, ltb, ltb→lt, leb→le, lit<, lit≤}
 use Rattle.model.specs.Lists.{tabulate, every}
-use Rattle.model.specs.Tasks.{Edge, _∈_, Ends, Distinct, processorOf}
+use Rattle.model.specs.Tasks.{Edge, _∈_, Ends, Distinct, processorOf, edge}
 use Rattle.model.specs.Processors.{processorEdges}
 use Rattle.model.specs.Graph.{edges, timeOf, WellFormedEdges, WellFormed}
 use Rattle.model.specs.Paths.{AllHeld, NoneOnCycle, OrderHeld, NoZeroCycle, Serial}
@@ -17,7 +17,7 @@ use Rattle.model.specs.Compute.{leastDelay, isRedundant, onCycle, zeroCy
 use Rattle.model.specs.Proposals.{AcceptedGraph, AcceptedProposal, result, dropping}
 use Rattle.model.specs.Plan.{planOf, planLatency}
 use Rattle.model.specs.Theorems.{Decides, OffCycles, Resynchronizes}
-use Rattle.model.specs.Example.{edge, deskBound, desk, proposal, looped, DeskOnCycle, DeskEmptyLoses, DeskFirstOnlyLoses, DeskDelayedLoses, DeskLate, DeskDelays, DeskEdges, DeskRedundant, DeskLatency, DeskStarts, DeskResult, ResultLatency, DeskPlan, DeskPlanAtNine}
+use Rattle.model.specs.Example.{deskBound, desk, proposal, looped, DeskOnCycle, DeskEmptyLoses, DeskFirstOnlyLoses, DeskDelayedLoses, DeskLate, DeskDelays, DeskEdges, DeskRedundant, DeskLatency, DeskStarts, DeskResult, ResultLatency, DeskPlan, DeskPlanAtNine}
 use Rattle.model.proofs.Basics.{all-below, every-out, eq→eqb, and-left, and-right}
 use Rattle.model.proofs.Graphs.{sync-edge-in, graph-ends, graph-serial}
 use Rattle.model.proofs.Results.{result-ends, result-proposed}

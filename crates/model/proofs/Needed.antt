@@ -6,14 +6,14 @@ use Prim.Native.Nat.{zero, suc, _+_, _≤_}
 use native.Mathlib.Omega.{arith}
 use lib.Dec.{lit<, lit≤}
 use Rattle.model.specs.Lists.{every, always, keepPlaces}
-use Rattle.model.specs.Tasks.{Edge, _∈_, Ends}
+use Rattle.model.specs.Tasks.{Edge, _∈_, Ends, edge}
 use Rattle.model.specs.Processors.{processorEdges}
 use Rattle.model.specs.Graph.{edges}
 use Rattle.model.specs.Paths.{AllHeld, NoZeroCycle}
 use Rattle.model.specs.Runs.{Times, Keeps, Allows}
 use Rattle.model.specs.Compute.{isRedundant, orderHolds, zeroCycle}
 use Rattle.model.specs.Proposals.{dropping}
-use Rattle.model.specs.Example.{edge, twins, EqualEdgesNeedRefusal, SerialIsNeeded}
+use Rattle.model.specs.Example.{twins, EqualEdgesNeedRefusal, SerialIsNeeded}
 use Rattle.model.proofs.Basics.{every-out}
 use Rattle.model.proofs.Graphs.{graph-ends}
 use Rattle.model.proofs.Together.{dropping-in}

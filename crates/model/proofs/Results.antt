@@ -9,7 +9,7 @@ use Rattle.model.specs.Processors.{processorEdges}
 use Rattle.model.specs.Graph.{Graph, count, edges}
 use Rattle.model.specs.Paths.{OnCycle, NoneOnCycle, Feedback, NoZeroCycle, SameCycles, Serial}
 use Rattle.model.specs.Proposals.{feedbackEdges, result}
-use Rattle.model.specs.Theorems.{ResultEdges, ResultDrops, WithinProcessor, ResultCycles}
+use Rattle.model.specs.Theorems.{ResultHas, ResultDrops, WithinProcessor, ResultCycles}
 use Rattle.model.proofs.Processors.{processor-edges, processor-around}
 use Rattle.model.proofs.Basics.{keep-in, keep-out}
 use Rattle.model.proofs.Walks.{cycle-back, back-cycle, path-re-base}
@@ -94,8 +94,8 @@ module _ (g : Graph) (bounds : Ends (count g) (g .syncs)) (proposed : List Edge)
 
 -- ── The statements ──
 
-pub result-edges : ResultEdges
-result-edges g bounds proposed e = (from, into)
+pub result-has : ResultHas
+result-has g bounds proposed e = (from, into)
   where
     from : e ∈ edges (result g proposed) → ProcessorEdge (g .tasks) e ⊎ ((e ∈ g .syncs × Feedback g e) ⊎ e ∈ proposed)
     from m = go (result-cases g bounds proposed m)

@@ -1,5 +1,5 @@
 -- Every sentence of specs/Theorems.antt, proved: the index of the theory, each from the file that has the argument.
-use Rattle.model.specs.Theorems.{LeastDelayIs, LeastUnique, RowLeast, OrderHoldsIs, OnCycleIs, ZeroCycleIs, InputFreeIs, JoinedIs, DistinctIs, RedundantIs, FeedbackIs, WithinProcessor, ProcessorEdgesAre, GraphSerial, EarliestRun, EarliestUnique, EarliestReached, NeverStallsIff, OrdersIff, OrderLost, LostIff, LatencyIs, LatencyUnique, FirstOutput, FirstOutputExact, MissesBoundIff, ResultEdges, ResultDrops, ResultCycles, ResultNeverStalls, ResultOrders, ResultLost, ResultMisses, AcceptedResult, AcceptedIff, DroppedTogether, LeastBound, ZeroSumBound, StartBound}
+use Rattle.model.specs.Theorems.{LeastDelayIs, LeastUnique, RowLeast, OrderHoldsIs, OnCycleIs, ZeroCycleIs, InputFreeIs, JoinedIs, DistinctIs, RedundantIs, FeedbackIs, WithinProcessor, ProcessorEdgesAre, GraphSerial, EarliestRun, EarliestUnique, EarliestReached, NeverStallsIff, OrdersIff, OrderLost, LostIff, LatencyIs, LatencyUnique, FirstOutput, FirstOutputExact, MissesBoundIff, ResultHas, ResultDrops, ResultCycles, ResultNeverStalls, ResultOrders, ResultLost, ResultMisses, AcceptedResult, AcceptedIff, DroppedTogether, LeastBound, ZeroSumBound, StartBound}
 use Rattle.model.proofs.Least
 use Rattle.model.proofs.Tests
 use Rattle.model.proofs.Bounds
@@ -98,8 +98,8 @@ misses-bound-iff = Accepted.misses-bound-iff
 
 -- ── 6. Results of proposals ──
 
-pub result-edges : ResultEdges
-result-edges = Results.result-edges
+pub result-has : ResultHas
+result-has = Results.result-has
 
 pub result-drops : ResultDrops
 result-drops = Results.result-drops

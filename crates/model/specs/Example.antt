@@ -5,7 +5,7 @@ use mathlib.Core.List.{List, [], _∷_}
 use mathlib.Core.Option.{Option, none, some}
 use Prim.Native.Nat.{ℕ, suc}
 use Rattle.model.specs.Lists.{tabulate, always}
-use Rattle.model.specs.Tasks.{Task, Edge, _∈_, Ends}
+use Rattle.model.specs.Tasks.{Task, Edge, _∈_, Ends, edge}
 use Rattle.model.specs.Graph.{Graph, edges, count, timeOf}
 use Rattle.model.specs.Paths.{NoZeroCycle, OnCycle, OrderHeld, AllHeld, Redundant}
 use Rattle.model.specs.Runs.{RunsAllowed, SomeRunBreaks, MissesBound, estimates}
@@ -15,9 +15,6 @@ use Rattle.model.specs.Plan.{planOf, planLatency}
 
 abbrev pub task : ℕ → ℕ → Task
 task p t = record { processor = p; time = t }
-
-abbrev pub edge : ℕ → ℕ → ℕ → Edge
-edge a b d = record { source = a; sink = b; delay = d }
 
 -- "Tasks 0, 1 on processor 0 (times 2, 3); 2, 3 on processor 1 (1, 4). Edges 0→2, 1→3, 0→3, delay 0. Input 0, output 3, bound 12."
 abbrev pub deskBound : ℕ → Graph

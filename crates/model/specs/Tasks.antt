@@ -16,6 +16,10 @@ pub record Edge : Type 0 where
   pub sink : ℕ
   pub delay : ℕ
 
+-- an edge of its three numbers
+abbrev pub edge : ℕ → ℕ → ℕ → Edge
+edge source sink delay = record { source = source; sink = sink; delay = delay }
+
 -- e stands in the list es
 infix 4 _∈_
 abbrev pub _∈_ : Edge → List Edge → Type 0

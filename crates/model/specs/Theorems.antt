@@ -147,8 +147,8 @@ MissesBoundIff =
 -- ── 6. Results of proposals ──
 
 -- The result holds the processor edges, the feedback edges of the graph and the proposed edges, and nothing else.
-abbrev pub ResultEdges : Type 0
-ResultEdges =
+abbrev pub ResultHas : Type 0
+ResultHas =
     (g : Graph) → Ends (count g) (g .syncs) → (proposed : List Edge) (e : Edge) →
     (e ∈ edges (result g proposed)) ↔ (ProcessorEdge (g .tasks) e ⊎ ((e ∈ g .syncs × Feedback g e) ⊎ e ∈ proposed))
 

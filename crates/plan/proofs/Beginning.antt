@@ -24,7 +24,7 @@ use Rattle.first_stage.specs.FirstStage.{firstStageIn}
 use Rattle.first_stage.proofs.Graphs.{first-stage-in}
 use Rattle.model.specs.Tasks.{Edge}
 use Rattle.delays.specs.Delays.{delayTable}
-use Rattle.present.specs.declared.Order.{Order}
+use Rattle.present.specs.declared.Precedence.{Precedence}
 use Rattle.present.specs.Present.{Ordered, Timed}
 use Rattle.present.proofs.Ordering.{first-staged, timed-sizes}
 use Rattle.steps.specs.Steps.{Begun}
@@ -89,7 +89,7 @@ module _ {graph : GraphReading} (given : AcceptedReading graph) where
       omega (arith, longer, same, size, as-many)
 
   pub begun :
-      {many : ℕ} {source sink delay from to counts : List ℕ} {o : Order} (end latest past past′ : List ℕ) →
+      {many : ℕ} {source sink delay from to counts : List ℕ} {o : Precedence} (end latest past past′ : List ℕ) →
       HeldFront 256 many source sink delay (firstStage g) → Ready g (firstStage g) from to counts →
       Ordered g (firstStage g) (take n (graph .time)) o → Timed g (firstStage g) end latest →
       Begun g (front n (graph .time)) many source sink delay from to counts o (take (n - 0) (end ++ past)) (take (n - 0) (latest ++ past′))

@@ -11,7 +11,7 @@ use Rattle.readings.specs.Working.{graphIn}
 use Rattle.acceptance.specs.Acceptance.{AcceptedReading}
 use Rattle.acceptance.proofs.Fronts.{front}
 use Rattle.acceptance.proofs.Readings.{graph-fronts, times-filed}
-use Rattle.present.specs.declared.Order.{Order}
+use Rattle.present.specs.declared.Precedence.{Precedence}
 use Rattle.present.specs.Present.{Clocked, Ordered}
 
 pub reading-clocked : {graph : GraphReading} → AcceptedReading graph → Clocked (graphIn graph) (front (graph .tasks) (graph .time)) (graph .output) (graph .bound)
@@ -26,7 +26,7 @@ reading-clocked given =
     }
 
 -- of the times as they are lent, and of the first of them
-module _ {g : Graph} {list : List Edge} {o : Order} (n : ℕ) (times : List ℕ) where
+module _ {g : Graph} {list : List Edge} {o : Precedence} (n : ℕ) (times : List ℕ) where
   pub ordered-first : Ordered g list (front n times) o → Ordered g list (take n times) o
   ordered-first = subst (λ (k : ℕ). Ordered g list (take k times) o) (sub-zero n)
 

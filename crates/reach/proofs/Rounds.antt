@@ -17,7 +17,7 @@ use Rattle.model.specs.Tasks.{Edge}
 use Rattle.model.specs.Compute.{lesser, plus, shortest, joins, through, leastDelay, present}
 use Rattle.model.proofs.Basics.{cases, is-true, is-false, eq→eqb, below-suc}
 use Rattle.records.specs.Columns.{heldEdge, edgesOf}
-use Rattle.reach.specs.Reach.{bit, bitAt, Reaches, Through, Joined}
+use Rattle.reach.specs.Reach.{bit, bitIn, Reaches, ReachesThrough, Merged}
 use Rattle.reach.proofs.Bits.{or-false, bit-zero}
 
 -- ── Whether there is a delay ──
@@ -57,36 +57,36 @@ present-more t (x ∷ es) e = go (t x) (present-more t es e)
 pub record Taken (source sink : List ℕ) (j : ℕ) (words : List ℕ) : Type 0 where
   pub room : length words ≡ 16
   pub edges :
-      (delay : List ℕ) (a b : ℕ) → a < 16 → bitAt words a b ≡ present (shortest (keep (joins a b) (tabulate j (heldEdge source sink delay))))
+      (delay : List ℕ) (a b : ℕ) → a < 16 → bitIn words a b ≡ present (shortest (keep (joins a b) (tabulate j (heldEdge source sink delay))))
 
 pub taken-none : (source sink words : List ℕ) → words ≡ replicate 16 0 → Taken source sink 0 words
 unfolding tabulate keep shortest present
 taken-none source sink words blank = record {
   room = ap length blank ∙ length-replicate {A = ℕ} 16 0;
   edges = λ delay a b l.
-      ap (λ (xs : List ℕ). bitAt xs a b) blank ∙ (ap (λ (word : ℕ). bit word b) (getD-replicate {A = ℕ} 16 a 0 0 l) ∙ bit-zero b);
+      ap (λ (xs : List ℕ). bitIn xs a b) blank ∙ (ap (λ (word : ℕ). bit word b) (getD-replicate {A = ℕ} 16 a 0 0 l) ∙ bit-zero b);
 }
 
 -- an edge stored at its source's word
 edge-stored :
-    (words : List ℕ) (from to word a b : ℕ) → from < length words → bit word b ≡ bitAt words from b || eqb to b
-    → bitAt (set words from word) a b ≡ bitAt words a b || (eqb from a && eqb to b)
+    (words : List ℕ) (from to word a b : ℕ) → from < length words → bit word b ≡ bitIn words from b || eqb to b
+    → bitIn (set words from word) a b ≡ bitIn words a b || (eqb from a && eqb to b)
 edge-stored words from to word a b inside stored = go (cases (eqb from a))
   where
-    go : T (eqb from a) ⊎ T (not (eqb from a)) → bitAt (set words from word) a b ≡ bitAt words a b || (eqb from a && eqb to b)
+    go : T (eqb from a) ⊎ T (not (eqb from a)) → bitIn (set words from word) a b ≡ bitIn words a b || (eqb from a && eqb to b)
     go (inl t) =
         let same : from ≡ a = eqb→eq from a t in
-        ap (λ (v : ℕ). bitAt (set words from word) v b) (sym same) ∙
+        ap (λ (v : ℕ). bitIn (set words from word) v b) (sym same) ∙
         (ap (λ (x : ℕ). bit x b) (getD-set-same words from word 0 inside) ∙
         (stored ∙
-        ap₂ (λ (v : ℕ) (x : Bool). bitAt words v b || (x && eqb to b)) same (sym (is-true (eqb from a) t))))
+        ap₂ (λ (v : ℕ) (x : Bool). bitIn words v b || (x && eqb to b)) same (sym (is-true (eqb from a) t))))
     go (inr n) =
         ap (λ (x : ℕ). bit x b) (getD-set-other words from a word 0 (λ q. T-not (eqb from a) n (eq→eqb (sym q)))) ∙
-        sym (ap (λ (x : Bool). bitAt words a b || (x && eqb to b)) (is-false (eqb from a) n) ∙ or-false (bitAt words a b))
+        sym (ap (λ (x : Bool). bitIn words a b || (x && eqb to b)) (is-false (eqb from a) n) ∙ or-false (bitIn words a b))
 
 pub taken-more :
     (source sink : List ℕ) (j word : ℕ) {words words′ : List ℕ} → Taken source sink j words → words′ ≡ set words (getD source j 0) word
-    → getD source j 0 < 16 → ((b : ℕ) → bit word b ≡ bitAt words (getD source j 0) b || eqb (getD sink j 0) b) → Taken source sink (j + 1) words′
+    → getD source j 0 < 16 → ((b : ℕ) → bit word b ≡ bitIn words (getD source j 0) b || eqb (getD sink j 0) b) → Taken source sink (j + 1) words′
 unfolding tabulate joins heldEdge
 taken-more source sink j word {words} {words′} done is inside stored = record {
   room = ap length is ∙ (length-set words (getD source j 0) word ∙ done .room);
@@ -94,7 +94,7 @@ taken-more source sink j word {words} {words′} done is inside stored = record 
       let room : length words ≡ 16 = done .room in
       let f = heldEdge source sink delay in
       let t = joins a b in
-      ap (λ (xs : List ℕ). bitAt xs a b) is ∙
+      ap (λ (xs : List ℕ). bitIn xs a b) is ∙
       (edge-stored words (getD source j 0) (getD sink j 0) word a b (omega arith) (stored b) ∙
       (ap (λ (x : Bool). x || (eqb (getD source j 0) a && eqb (getD sink j 0) b)) (done .edges delay a b l) ∙
       (sym (present-more t (tabulate j f) (f j)) ∙
@@ -103,7 +103,7 @@ taken-more source sink j word {words} {words′} done is inside stored = record 
 
 pub taken-all :
     (source sink : List ℕ) (j n : ℕ) {words : List ℕ} → Taken source sink j words → length source ≡ j → n ≤ 16 → (delay : List ℕ)
-    → Through 0 n (edgesOf source sink delay) words
+    → ReachesThrough 0 n (edgesOf source sink delay) words
 unfolding through edgesOf
 taken-all source sink j n done whole few delay = record {
   room = done .room;
@@ -114,50 +114,50 @@ taken-all source sink j n done whole few delay = record {
 
 -- ── One inner task after the other ──
 
--- the words of the first i tasks joined with word k, the others as before
-pub record PartJoined (i k : ℕ) (before after : List ℕ) : Type 0 where
+-- the words of the first i tasks merged with word k, the others as before
+pub record PartMerged (i k : ℕ) (before after : List ℕ) : Type 0 where
   pub room : length after ≡ 16
-  pub done : (a b : ℕ) → a < i → bitAt after a b ≡ bitAt before a b || (bitAt before a k && bitAt before k b)
+  pub done : (a b : ℕ) → a < i → bitIn after a b ≡ bitIn before a b || (bitIn before a k && bitIn before k b)
   pub rest : (a : ℕ) → i ≤ a → getD after a 0 ≡ getD before a 0
 
-pub joined-none : (k : ℕ) (words : List ℕ) → length words ≡ 16 → PartJoined 0 k words words
-joined-none k words room = record { room = room; done = λ a b l. absurd (not-suc-le-zero l); rest = λ a l. refl }
+pub merged-none : (k : ℕ) (words : List ℕ) → length words ≡ 16 → PartMerged 0 k words words
+merged-none k words room = record { room = room; done = λ a b l. absurd (not-suc-le-zero l); rest = λ a l. refl }
 
-pub joined-more :
-    {i k : ℕ} {before words words′ : List ℕ} (word : ℕ) → PartJoined i k before words → words′ ≡ set words i word → i < 16
-    → ((b : ℕ) → bit word b ≡ bitAt words i b || (bitAt words i k && bitAt before k b)) → PartJoined (i + 1) k before words′
-joined-more {i} {k} {before} {words} {words′} word part is inside stored = record {
+pub merged-more :
+    {i k : ℕ} {before words words′ : List ℕ} (word : ℕ) → PartMerged i k before words → words′ ≡ set words i word → i < 16
+    → ((b : ℕ) → bit word b ≡ bitIn words i b || (bitIn words i k && bitIn before k b)) → PartMerged (i + 1) k before words′
+merged-more {i} {k} {before} {words} {words′} word part is inside stored = record {
   room = ap length is ∙ (length-set words i word ∙ part .room);
   done = λ a b l. let below : a < suc i = omega arith in done a b (below-suc below);
   rest = λ a l.
       ap (λ (xs : List ℕ). getD xs a 0) is ∙ (getD-set-other words i a word 0 (λ q. omega arith) ∙ part .rest a (omega arith));
 }
   where
-    done : (a b : ℕ) → (a < i) ⊎ (a ≡ i) → bitAt words′ a b ≡ bitAt before a b || (bitAt before a k && bitAt before k b)
+    done : (a b : ℕ) → (a < i) ⊎ (a ≡ i) → bitIn words′ a b ≡ bitIn before a b || (bitIn before a k && bitIn before k b)
     done a b (inl l) =
-        ap (λ (xs : List ℕ). bitAt xs a b) is ∙
+        ap (λ (xs : List ℕ). bitIn xs a b) is ∙
         (ap (λ (x : ℕ). bit x b) (getD-set-other words i a word 0 (λ q. omega arith)) ∙ part .done a b l)
     done a b (inr q) =
         let room : length words ≡ 16 = part .room in
         let old : getD words i 0 ≡ getD before i 0 = part .rest i (omega arith) in
-        ap (λ (xs : List ℕ). bitAt xs a b) is ∙
-        (ap (λ (v : ℕ). bitAt (set words i word) v b) q ∙
+        ap (λ (xs : List ℕ). bitIn xs a b) is ∙
+        (ap (λ (v : ℕ). bitIn (set words i word) v b) q ∙
         (ap (λ (x : ℕ). bit x b) (getD-set-same words i word 0 (omega arith)) ∙
         (stored b ∙
-        (ap (λ (x : ℕ). bit x b || (bit x k && bitAt before k b)) old ∙
-        ap (λ (v : ℕ). bitAt before v b || (bitAt before v k && bitAt before k b)) (sym q)))))
+        (ap (λ (x : ℕ). bit x b || (bit x k && bitIn before k b)) old ∙
+        ap (λ (v : ℕ). bitIn before v b || (bitIn before v k && bitIn before k b)) (sym q)))))
 
-pub joined-all : {i n k : ℕ} {before after : List ℕ} → PartJoined i k before after → n ≤ i → Joined n k before after
-joined-all part whole = record { room = part .room; bits = λ a b l. part .done a b (omega arith) }
+pub merged-all : {i n k : ℕ} {before after : List ℕ} → PartMerged i k before after → n ≤ i → Merged n k before after
+merged-all part whole = record { room = part .room; bits = λ a b l. part .done a b (omega arith) }
 
 -- a round is a step of the recursion
 pub through-more :
-    {k n : ℕ} {es : List Edge} {before after : List ℕ} → Through k n es before → Joined n k before after → k < n → Through (k + 1) n es after
+    {k n : ℕ} {es : List Edge} {before after : List ℕ} → ReachesThrough k n es before → Merged n k before after → k < n → ReachesThrough (k + 1) n es after
 unfolding through
-through-more {k} {n} {es} {before} {after} held joined inner = record {
-  room = joined .room;
+through-more {k} {n} {es} {before} {after} held merged inner = record {
+  room = merged .room;
   paths = λ a b l m.
-      joined .bits a b l ∙
+      merged .bits a b l ∙
       (ap₂ (λ (x y : Bool). x || y) (held .paths a b l m)
       (ap₂ (λ (x y : Bool). x && y) (held .paths a k l inner) (held .paths k b inner m) ∙ sym (present-plus (through es k a k) (through es k k b))) ∙
       (sym (present-lesser (through es k a b) (plus (through es k a k) (through es k k b))) ∙
@@ -165,10 +165,10 @@ through-more {k} {n} {es} {before} {after} held joined inner = record {
 }
 
 -- of fewer processors
-pub through-fewer : {k m n : ℕ} {es : List Edge} {words : List ℕ} → m ≤ n → Through k n es words → Through k m es words
+pub through-fewer : {k m n : ℕ} {es : List Edge} {words : List ℕ} → m ≤ n → ReachesThrough k n es words → ReachesThrough k m es words
 through-fewer few held = record { room = held .room; paths = λ a b l m. held .paths a b (omega arith) (omega arith) }
 
-pub through-all : {k n : ℕ} {es : List Edge} {words : List ℕ} → Through k n es words → k ≡ n → Reaches n es words
+pub through-all : {k n : ℕ} {es : List Edge} {words : List ℕ} → ReachesThrough k n es words → k ≡ n → Reaches n es words
 unfolding leastDelay
 through-all {k} {n} {es} held whole = record {
   room = held .room;

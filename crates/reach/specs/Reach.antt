@@ -16,23 +16,23 @@ unfoldable pub bit : ℕ → ℕ → Bool
 bit word b = eqb (word / 2 ^ b % 2) 1
 
 -- bit b of word a
-abbrev pub bitAt : List ℕ → ℕ → ℕ → Bool
-bitAt words a b = bit (getD words a 0) b
+abbrev pub bitIn : List ℕ → ℕ → ℕ → Bool
+bitIn words a b = bit (getD words a 0) b
 
 -- bit b of word a says that a path of es leads from a to b, for the first n processors
 pub record Reaches (n : ℕ) (es : List Edge) (words : List ℕ) : Type 0 where
   pub room : length words ≡ 16
-  pub paths : (a b : ℕ) → a < n → b < n → bitAt words a b ≡ present (leastDelay n es a b)
+  pub paths : (a b : ℕ) → a < n → b < n → bitIn words a b ≡ present (leastDelay n es a b)
 
 -- the same for the paths whose inner processors are below k
-pub record Through (k n : ℕ) (es : List Edge) (words : List ℕ) : Type 0 where
+pub record ReachesThrough (k n : ℕ) (es : List Edge) (words : List ℕ) : Type 0 where
   pub room : length words ≡ 16
-  pub paths : (a b : ℕ) → a < n → b < n → bitAt words a b ≡ present (through es k a b)
+  pub paths : (a b : ℕ) → a < n → b < n → bitIn words a b ≡ present (through es k a b)
 
 -- one round: where its bit k is set, each of the first n words has taken the bits of word k
-pub record Joined (n k : ℕ) (before after : List ℕ) : Type 0 where
+pub record Merged (n k : ℕ) (before after : List ℕ) : Type 0 where
   pub room : length after ≡ 16
-  pub bits : (a b : ℕ) → a < n → bitAt after a b ≡ bitAt before a b || (bitAt before a k && bitAt before k b)
+  pub bits : (a b : ℕ) → a < n → bitIn after a b ≡ bitIn before a b || (bitIn before a k && bitIn before k b)
 
 -- ── Between tasks ──
 
@@ -47,4 +47,4 @@ Circled n es processor = (a b : ℕ) → a < n → b < n → at processor a ≡ 
 -- bit q of word p says that a path of es leads from a task of processor p to a task of processor q, for n tasks
 pub record ReachesOn (n : ℕ) (es : List Edge) (processor words : List ℕ) : Type 0 where
   pub room : length words ≡ 16
-  pub paths : (a b : ℕ) → a < n → b < n → bitAt words (at processor a) (at processor b) ≡ present (leastDelay n es a b)
+  pub paths : (a b : ℕ) → a < n → b < n → bitIn words (at processor a) (at processor b) ≡ present (leastDelay n es a b)

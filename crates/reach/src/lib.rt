@@ -7,7 +7,7 @@ ghost use lib.Dec.{eqb};
 ghost use lib.ListN.{length, getD, replicate};
 ghost use Rattle.model.specs.Tasks.{Edge};
 ghost use Rattle.records.specs.Columns.{edgesOf, at};
-ghost use Rattle.reach.specs.Reach.{bit, Reaches, Through, Joined, processorsOf, Circled, ReachesOn};
+ghost use Rattle.reach.specs.Reach.{bit, Reaches, ReachesThrough, Merged, processorsOf, Circled, ReachesOn};
 
 // Word a, bit b: a path leads from processor a to processor b.
 pub struct Reach {
@@ -31,7 +31,7 @@ pub fn has_bit(word: u64, at: usize) -> bool
 }
 
 // A word, with the bits of another word too if bit k is set.
-pub fn joined(word: u64, row: u64, k: usize) -> u64
+pub fn merged(word: u64, row: u64, k: usize) -> u64
     requires { ⌜ k < 64 ⌝ }
     ensures { λ r. ⌜ ((b : ℕ) → bit r b ≡ bit word b || (bit word k && bit row b)) ⌝ }
 {
@@ -42,26 +42,26 @@ pub fn joined(word: u64, row: u64, k: usize) -> u64
 }
 
 // One round: a processor from which a path leads to processor k takes over where paths lead from k.
-fn join_through(k: usize, count: usize, words: &mut [u64])
+fn merge_through(k: usize, count: usize, words: &mut [u64])
     requires { ⌜ (k < count) × (count ≤ 16) × (length (now words) ≡ 16) ⌝ }
-    ensures { λ _. ⌜ Joined count k (now (words .entry)) (now (words .exit)) ⌝ }
+    ensures { λ _. ⌜ Merged count k (now (words .entry)) (now (words .exit)) ⌝ }
 {
     let row = words[k];
     let mut a = 0;
     while a < count {
-        words[a] = joined(words[a], row, k);
+        words[a] = merged(words[a], row, k);
         a += 1;
     }
 }
 
 // As many rounds as processors: after k of them, all paths whose inner processors are below k count.
-fn join_all(count: usize, words: &mut [u64])
+fn merge_all(count: usize, words: &mut [u64])
     requires { ⌜ (count ≤ 16) × (length (now words) ≡ 16) ⌝ }
-    ensures { λ _. ⌜ ((es : List Edge) → Through 0 count es (now (words .entry)) → Reaches count es (now (words .exit))) ⌝ }
+    ensures { λ _. ⌜ ((es : List Edge) → ReachesThrough 0 count es (now (words .entry)) → Reaches count es (now (words .exit))) ⌝ }
 {
     let mut k = 0;
     while k < count {
-        join_through(k, count, words);
+        merge_through(k, count, words);
         k += 1;
     }
 }
@@ -80,7 +80,7 @@ fn take_between<'a>(source: &'a [u8], sink: &'a [u8], processor: &'a [u8], words
     requires { ⌜ ((j : ℕ) → j < length (now source) → (at (now source) j < length (now processor)) × (at (now sink) j < length (now processor))) ⌝ }
     requires { ⌜ ((v : ℕ) → v < length (now processor) → at (now processor) v < 16) ⌝ }
     requires { ⌜ now words ≡ replicate 16 0 ⌝ }
-    ensures { λ _. ⌜ ((delay : List ℕ) → Through 0 16 (edgesOf (processorsOf (now (processor .entry)) (now (source .entry))) (processorsOf (now (processor .entry)) (now (sink .entry))) delay) (now (words .exit))) ⌝ }
+    ensures { λ _. ⌜ ((delay : List ℕ) → ReachesThrough 0 16 (edgesOf (processorsOf (now (processor .entry)) (now (source .entry))) (processorsOf (now (processor .entry)) (now (sink .entry))) delay) (now (words .exit))) ⌝ }
 {
     let mut j = 0;
     while j < source.len() {
@@ -126,7 +126,7 @@ pub fn paths_between_processors<'a>(source: &'a [u8], sink: &'a [u8], processor:
     let mut words: [u64; 16] = [0; 16];
     take_between(source, sink, processor, &mut words);
     let used = processors_used(processor);
-    join_all(used, &mut words);
+    merge_all(used, &mut words);
     Reach { words }
 }
 

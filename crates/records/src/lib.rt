@@ -55,7 +55,7 @@ pub fn read_edges<'a>(
 }
 
 // No task.
-const NONE: u8 = 64;
+const NO_TASK: u8 = 64;
 
 // For each task the next one on its processor, for each processor its first task. One pass from the last task to the first: the first task on a
 // processor from a task on is the next one for the task before.
@@ -75,7 +75,7 @@ fn find_next<'a>(processor: &[u8], next: &'a mut [u8], first: &'a mut [u8])
 }
 
 // The processor edges, one out of each task, in the tasks' sequence: to the next task on its processor with delay 0, from the last to the first
-// with delay 1. The sinks are first the next tasks; where there is none, NONE shifted is the delay, and the first task takes its place.
+// with delay 1. The sinks are first the next tasks; where there is none, NO_TASK shifted is the delay, and the first task takes its place.
 pub fn processor_edges<'a>(
     processor: &[u8],
     source: &'a mut [u8],
@@ -90,7 +90,7 @@ pub fn processor_edges<'a>(
     ensures { λ _. ⌜ ((ts : List Task) → ProcessorsOf ts (now (processor .entry)) → now (sink .exit) ≡ tabulate (length ts) (λ v. processorEdge ts v .sink)) ⌝ }
     ensures { λ _. ⌜ ((ts : List Task) → ProcessorsOf ts (now (processor .entry)) → now (delay .exit) ≡ tabulate (length ts) (λ v. processorEdge ts v .delay)) ⌝ }
 {
-    let mut first: [u8; 256] = [NONE; 256];
+    let mut first: [u8; 256] = [NO_TASK; 256];
     find_next(processor, sink, &mut first);
     let mut v = 0;
     while v < processor.len() {
@@ -100,7 +100,7 @@ pub fn processor_edges<'a>(
     }
     let mut w = 0;
     while w < processor.len() {
-        if sink[w] >= NONE {
+        if sink[w] >= NO_TASK {
             sink[w] = first[processor[w] as usize];
         }
         w += 1;

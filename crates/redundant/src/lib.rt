@@ -71,7 +71,7 @@ pub fn redundant(graph: &[u8]) -> RedundantSet
         };
     }
     let marks = marks_of(accepted.reading);
-    let count = marks::count(marks);
+    let count = marks::count_set(marks);
     RedundantSet {
         outcome,
         marks,

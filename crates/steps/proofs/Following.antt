@@ -20,14 +20,14 @@ use Rattle.records.proofs.Fill.{getD-tabulate}
 use Rattle.results.specs.Fronts.{HeldFront}
 use Rattle.latest.specs.Latest.{earliestEnds}
 use Rattle.prepared.specs.Ready.{Ready}
-use Rattle.present.specs.declared.Order.{Order}
+use Rattle.present.specs.declared.Precedence.{Precedence}
 use Rattle.present.specs.Present.{Staged, Ordered, Timed, Adding}
 use Rattle.present.proofs.Ordering.{timed-sizes}
 use Rattle.steps.specs.declared.StepAnswer.{StepAnswer}
 use Rattle.steps.specs.Steps.{Here, Taken, Stepped, Begun, Followed}
 
 -- where the loop stands: at a stage of the plan, with its times, and with its delays and counts if it goes on; at the last one if it does not
-pub record Standing (g : Graph) (steps many : ℕ) (going : Bool) (time source sink delay from to counts : List ℕ) (o : Order) (end latest : List ℕ) : Type 0 where
+pub record Standing (g : Graph) (steps many : ℕ) (going : Bool) (time source sink delay from to counts : List ℕ) (o : Precedence) (end latest : List ℕ) : Type 0 where
   pub list : List Edge
   pub reached : Stage g steps list
   pub held : HeldFront 256 many source sink delay list
@@ -41,7 +41,7 @@ abbrev pub left : ℕ → Bool → ℕ
 left many going = many + counted going 1
 
 module _
-    {g : Graph} {time : List ℕ} {first : ℕ} {source₀ sink₀ delay₀ from₀ to₀ counts₀ : List ℕ} {o₀ : Order} {end₀ latest₀ : List ℕ}
+    {g : Graph} {time : List ℕ} {first : ℕ} {source₀ sink₀ delay₀ from₀ to₀ counts₀ : List ℕ} {o₀ : Precedence} {end₀ latest₀ : List ℕ}
     (begun : Begun g time first source₀ sink₀ delay₀ from₀ to₀ counts₀ o₀ end₀ latest₀)
   where
     accepted : AcceptedGraph g
@@ -77,7 +77,7 @@ module _
         omega (arith, shrunk, fewer, accepted .formed .syncs-formed .few)
 
     module _
-        {steps many : ℕ} {going : Bool} {source sink delay from to counts : List ℕ} {o : Order} {end latest : List ℕ}
+        {steps many : ℕ} {going : Bool} {source sink delay from to counts : List ℕ} {o : Precedence} {end latest : List ℕ}
         (stands : Standing g steps many going time source sink delay from to counts o end latest)
       where
         pub here-now : going ≡ true → Here g (stands .list) (length time) many source sink delay from to counts end latest
@@ -133,7 +133,7 @@ module _
               }
 
               pub standing-next :
-                  {o′ : Order} {end′ latest′ : List ℕ} → Ordered g (replaced g (stands .list) (r .source) (r .sink)) time o′ →
+                  {o′ : Precedence} {end′ latest′ : List ℕ} → Ordered g (replaced g (stands .list) (r .source) (r .sink)) time o′ →
                   Timed g (replaced g (stands .list) (r .source) (r .sink)) end′ latest′ →
                   Standing g (steps + 1) (r .count) (r .taken) time source′ sink′ delay′ from′ to′ counts′ o′ end′ latest′
               unfolding next

@@ -9,7 +9,7 @@ use Rattle.model.specs.Graph.{Graph, count}
 use Rattle.model.specs.Plan.{replaced, Candidate, firstStage, step, planOf, planLatency}
 use Rattle.results.specs.Fronts.{HeldFront}
 use Rattle.prepared.specs.Ready.{Ready}
-use Rattle.present.specs.declared.Order.{Order}
+use Rattle.present.specs.declared.Precedence.{Precedence}
 use Rattle.present.specs.Present.{Staged, Ordered, Timed}
 use Rattle.steps.specs.declared.StepAnswer.{StepAnswer}
 use Rattle.steps.specs.declared.LastStage.{LastStage}
@@ -35,7 +35,7 @@ pub record Stepped (g : Graph) (list : List Edge) (r : StepAnswer) (source sink 
   pub if-not : r .taken ≡ false → (step g list ≡ none) × HeldFront 256 (r .count) source sink delay list
 
 -- what all steps start from: the first stage, and sets of edges that order the tasks as its present graph does
-pub record Begun (g : Graph) (time : List ℕ) (many : ℕ) (source sink delay from to counts : List ℕ) (o : Order) (end latest : List ℕ) : Type 0 where
+pub record Begun (g : Graph) (time : List ℕ) (many : ℕ) (source sink delay from to counts : List ℕ) (o : Precedence) (end latest : List ℕ) : Type 0 where
   pub here : Here g (firstStage g) (count g) many source sink delay from to counts end latest
   pub ordered : Ordered g (firstStage g) time o
 

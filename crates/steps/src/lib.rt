@@ -5,7 +5,7 @@ ghost use Rattle.model.specs.Tasks.{Edge};
 ghost use Rattle.model.specs.Graph.{Graph};
 ghost use Rattle.steps.specs.Steps.{Here, Stepped, Begun, Followed};
 use candidates::best_pair;
-use present::Order;
+use present::Precedence;
 use present::next_times;
 use stages::replace;
 use subsumption::add_pair;
@@ -83,7 +83,7 @@ pub fn follow_steps<'a, 'b>(
     from: &'b mut [u16],
     to: &'b mut [u16],
     counts: &'b mut [u16],
-    first_order: Order,
+    first_order: Precedence,
     end: &'b mut [u32],
     latest: &'b mut [u32],
 ) -> LastStage

@@ -7,12 +7,12 @@ use Prim.Native.Nat.{ℕ, _+_, _*_, _≤_, _<_}
 use native.Mathlib.Omega.{arith}
 use lib.ListN.{length}
 use borrow.Author.Tests.{lt-leb}
+use Rattle.model.specs.Tasks.{edge}
 use Rattle.model.specs.Lists.{counted, tabulate}
 use Rattle.model.proofs.Basics.{order}
 use Rattle.records.specs.Columns.{at, rows}
 use Rattle.records.proofs.Fill.{length-tabulate, getD-tabulate}
 use Rattle.records.proofs.Rows.{rows-at}
-use Rattle.delays.specs.Delays.{edge}
 use Rattle.updates.specs.Updates.{Small, lowerAt, RowLowered, Lowers}
 use Rattle.updates.proofs.Rows.{rowOf, small-row, row-at}
 use Rattle.subsumption.specs.Subsumption.{subsumesBy, rowAt, share, SameTests, Covered}

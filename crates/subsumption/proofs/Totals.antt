@@ -11,12 +11,11 @@ use lib.Dec.{leb}
 use lib.ListN.{length}
 use borrow.Author.Tests.{le-leb, lt-leb}
 use Rattle.model.specs.Lists.{put, keep, counted, tabulate}
-use Rattle.model.specs.Tasks.{Edge, _∈_}
+use Rattle.model.specs.Tasks.{Edge, _∈_, edge}
 use Rattle.model.proofs.Basics.{order}
 use Rattle.model.proofs.Plans.{length-keep}
 use Rattle.records.specs.Columns.{at, heldEdge}
 use Rattle.records.proofs.Fill.{length-tabulate}
-use Rattle.delays.specs.Delays.{edge}
 use Rattle.subsumption.specs.Subsumption.{subsumesBy, rowAt, share, CountsOf, SameTests, Covered, EdgeShifted}
 use Rattle.subsumption.proofs.Shifts.{counted-few}
 

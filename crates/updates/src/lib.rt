@@ -11,7 +11,7 @@ use delays::lesser;
 use delays::nearer;
 
 // No entry fell: above every entry, and the largest number that fits a signed test.
-const NONE: u16 = 32767;
+const NO_FALL: u16 = 32767;
 
 // A number if it fell below what it was, else one above all delays.
 fn fallen(before: u16, after: u16) -> u16
@@ -22,7 +22,7 @@ fn fallen(before: u16, after: u16) -> u16
     if (after as i16) < (before as i16) {
         return after;
     }
-    NONE
+    NO_FALL
 }
 
 // Copies one line of a table: entries that stand a step apart, cut at 16,383, one after the other.
@@ -69,7 +69,7 @@ fn lower_row(way: u16, onward: &[u16], start: usize, rows: &mut [u16]) -> u16
     requires { ⌜ (start + 64 ≤ length (now rows)) × (start ≤ 4096) × ((y : ℕ) → y < 64 → at (now rows) (start + y) ≤ 16383) ⌝ }
     ensures { λ r. ⌜ RowFell way (now (onward .entry)) start 64 (now (rows .entry)) (now (rows .exit)) r ⌝ }
 {
-    let mut least = NONE;
+    let mut least = NO_FALL;
     let mut y = 0;
     while y < WIDTH {
         let before = rows[start + y];

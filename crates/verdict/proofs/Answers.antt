@@ -23,7 +23,7 @@ use Rattle.readings.proofs.Accepted.{proposal-formed}
 use Rattle.acceptance.specs.declared.Acceptance.{Acceptance}
 use Rattle.acceptance.specs.Acceptance.{acceptanceRefusal, acceptance}
 use Rattle.judgement.specs.declared.Judgement.{Judgement}
-use Rattle.judgement.specs.Judgement.{timed, judgedRefusal, judgement, OpenPlace}
+use Rattle.judgement.specs.Judgement.{tellsLatency, judgedRefusal, judgement, OpenPlace}
 use Rattle.judgement.specs.Searches.{Judgeable}
 use Rattle.judgement.proofs.Sizes.{told-latency-small}
 use Rattle.acceptance.specs.declared.Outcome.{Outcome}
@@ -144,19 +144,19 @@ module _ (s p : List ℕ) {a : Acceptance} (is : a ≡ acceptance s) (passed : a
     -- where latency and margin are told, the judgement tells the latency
     told-alike :
         (refusal : Refusal) (b l : ℕ) →
-        (toldLate refusal b (counted (timed (refusal .number)) l) ≡ toldLate refusal b l) ×
-        (ifPassed (refusal .number) (counted (timed (refusal .number)) l) 0 ≡ ifPassed (refusal .number) l 0) ×
-        (ifPassed (refusal .number) (margin b (counted (timed (refusal .number)) l)) (pos 0) ≡ ifPassed (refusal .number) (margin b l) (pos 0))
-    unfolding counted timed
+        (toldLate refusal b (counted (tellsLatency (refusal .number)) l) ≡ toldLate refusal b l) ×
+        (ifPassed (refusal .number) (counted (tellsLatency (refusal .number)) l) 0 ≡ ifPassed (refusal .number) l 0) ×
+        (ifPassed (refusal .number) (margin b (counted (tellsLatency (refusal .number)) l)) (pos 0) ≡ ifPassed (refusal .number) (margin b l) (pos 0))
+    unfolding counted tellsLatency
     told-alike refusal b l = go (decided (eqb-decides (refusal .number) 0)) (decided (eqb-decides (refusal .number) 15))
       where
-        told-at : (n : ℕ) → refusal .number ≡ n → counted (timed n) l ≡ l → counted (timed (refusal .number)) l ≡ l
-        told-at n same told = ap (λ (m : ℕ). counted (timed m) l) same ∙ told
+        told-at : (n : ℕ) → refusal .number ≡ n → counted (tellsLatency n) l ≡ l → counted (tellsLatency (refusal .number)) l ≡ l
+        told-at n same told = ap (λ (m : ℕ). counted (tellsLatency m) l) same ∙ told
 
-        when-told : counted (timed (refusal .number)) l ≡ l →
-            (toldLate refusal b (counted (timed (refusal .number)) l) ≡ toldLate refusal b l) ×
-            (ifPassed (refusal .number) (counted (timed (refusal .number)) l) 0 ≡ ifPassed (refusal .number) l 0) ×
-            (ifPassed (refusal .number) (margin b (counted (timed (refusal .number)) l)) (pos 0) ≡ ifPassed (refusal .number) (margin b l) (pos 0))
+        when-told : counted (tellsLatency (refusal .number)) l ≡ l →
+            (toldLate refusal b (counted (tellsLatency (refusal .number)) l) ≡ toldLate refusal b l) ×
+            (ifPassed (refusal .number) (counted (tellsLatency (refusal .number)) l) 0 ≡ ifPassed (refusal .number) l 0) ×
+            (ifPassed (refusal .number) (margin b (counted (tellsLatency (refusal .number)) l)) (pos 0) ≡ ifPassed (refusal .number) (margin b l) (pos 0))
         when-told told = (
           ap (toldLate refusal b) told,
           ap (λ (x : ℕ). ifPassed (refusal .number) x 0) told,
@@ -164,9 +164,9 @@ module _ (s p : List ℕ) {a : Acceptance} (is : a ≡ acceptance s) (passed : a
         )
 
         go : (refusal .number ≡ 0) ⊎ (refusal .number ≡ 0 → ⊥) → (refusal .number ≡ 15) ⊎ (refusal .number ≡ 15 → ⊥) →
-            (toldLate refusal b (counted (timed (refusal .number)) l) ≡ toldLate refusal b l) ×
-            (ifPassed (refusal .number) (counted (timed (refusal .number)) l) 0 ≡ ifPassed (refusal .number) l 0) ×
-            (ifPassed (refusal .number) (margin b (counted (timed (refusal .number)) l)) (pos 0) ≡ ifPassed (refusal .number) (margin b l) (pos 0))
+            (toldLate refusal b (counted (tellsLatency (refusal .number)) l) ≡ toldLate refusal b l) ×
+            (ifPassed (refusal .number) (counted (tellsLatency (refusal .number)) l) 0 ≡ ifPassed (refusal .number) l 0) ×
+            (ifPassed (refusal .number) (margin b (counted (tellsLatency (refusal .number)) l)) (pos 0) ≡ ifPassed (refusal .number) (margin b l) (pos 0))
         go (inl zero) late = when-told (told-at 0 zero refl)
         go (inr some) (inl late) = when-told (told-at 15 late refl)
         go (inr some) (inr other) = (
@@ -180,11 +180,11 @@ module _ (s p : List ℕ) {a : Acceptance} (is : a ≡ acceptance s) (passed : a
       unfolding judgement
       refusal-is = ap (λ (x : Judgement). x .refusal) judged ∙ sym (chain (j .refusal .place))
 
-      latency-is : j .latency ≡ counted (timed (j .refusal .number)) (resultLatency s p)
+      latency-is : j .latency ≡ counted (tellsLatency (j .refusal .number)) (resultLatency s p)
       unfolding judgement resultLatency
       latency-is =
           ap (λ (x : Judgement). x .latency) judged ∙
-          ap (λ (x : Refusal). counted (timed (x .number)) (latencyOf (result (graphOf s) (proposalOf p)))) (sym (ap (λ (x : Judgement). x .refusal) judged))
+          ap (λ (x : Refusal). counted (tellsLatency (x .number)) (latencyOf (result (graphOf s) (proposalOf p)))) (sym (ap (λ (x : Judgement). x .refusal) judged))
 
       pub judged-answer :
           {r : ProposalVerdict} → (j .refusal .number ≡ 13 → OpenPlace (graphOf s) (proposalOf p) (j .refusal .place)) →

@@ -15,7 +15,7 @@ use Rattle.model.specs.Tasks.{Edge}
 use Rattle.model.proofs.Basics.{order}
 use Rattle.records.specs.Columns.{heldEdge, edgesOf}
 use Rattle.records.proofs.Edges.{edge-in, edge-out}
-use Rattle.waits.specs.Later.{StandsFor, Late, askedEnd}
+use Rattle.waits.specs.Later.{StandsFor, LaterEdges, askedEnd}
 
 module _ (source sink delay : List ℕ) (n : ℕ) (time : ℕ → ℕ) (turns : ℕ) where
   -- the delay at a place lets one of the turns wait
@@ -97,7 +97,7 @@ module _ (source sink delay : List ℕ) (n : ℕ) (time : ℕ → ℕ) (turns : 
                 (entry .0, omega arith, kept i (entry .0) inside (entry .2))
 
     -- after all edges
-    pub late-all : length source ≤ j → j ≤ length source → Late (edgesOf source sink delay) n time turns back lastings sinks count
+    pub late-all : length source ≤ j → j ≤ length source → LaterEdges (edgesOf source sink delay) n time turns back lastings sinks count
     unfolding heldEdge
     late-all all within = record {
       sound = λ k l.

@@ -14,7 +14,7 @@ abbrev pub StandsFor : ℕ → (ℕ → ℕ) → Edge → ℕ → ℕ → ℕ �
 StandsFor n time e back lasting sink = (back + e .source ≡ e .delay * n) × (lasting ≡ time (e .source)) × (sink ≡ e .sink)
 
 -- The first `count` entries of three lists stand for edges that let one of so many turns wait for an earlier one, and for all of them.
-pub record Late (es : List Edge) (n : ℕ) (time : ℕ → ℕ) (turns : ℕ) (back lastings sinks : List ℕ) (count : ℕ) : Type 0 where
+pub record LaterEdges (es : List Edge) (n : ℕ) (time : ℕ → ℕ) (turns : ℕ) (back lastings sinks : List ℕ) (count : ℕ) : Type 0 where
   pub sound :
       (k : ℕ) → k < count →
       (e : Edge) × (e ∈ es) × (0 < e .delay) × (e .delay < turns) × StandsFor n time e (getD back k 0) (getD lastings k 0) (getD sinks k 0)

@@ -73,8 +73,8 @@ loop-holds c = (omega arith, best-none _ _ (omega arith))
 mul-start : tie.Need-mul-start Inv-loop μ-loop
 mul-start c = omega (arith, start c .pre .0)
 
-cut-requires : tie.Need-cut-requires Inv-loop μ-loop
-cut-requires c κs = search needs
+capped-requires : tie.Need-capped-requires Inv-loop μ-loop
+capped-requires c κs = search needs
 
 mul-may-exceed : tie.Need-mul-may-exceed Inv-loop μ-loop
 mul-may-exceed c = omega (arith, start (c .before) .pre .0)
@@ -195,8 +195,8 @@ loop-again c =
           row-done
           (best-skipped (loop .inv .1)
           (λ d l.
-          let least : c .before .before .before .before .before .cut .result ≤ loop .best .gain = omega (arith, c .before .before .before .before .before .cut .ensures) in
-          let worth-least : worth a d ≤ c .before .before .before .before .before .cut .result
+          let least : c .before .before .before .before .before .capped .result ≤ loop .best .gain = omega (arith, c .before .before .before .before .before .capped .ensures) in
+          let worth-least : worth a d ≤ c .before .before .before .before .before .capped .result
           = ⊎-elim (λ none. worth-few few counts to end latest a d l (start inner .pre .4) (fine-row inner) none)
           (λ none. worth-few few counts to end latest a d l (start inner .pre .4) (coarse-row inner) none) (c .before .may-exceed .ensures (w .0 .left)) in
           omega arith))
@@ -224,7 +224,7 @@ best-pair-spec =
     unit-row-requires-2
     loop-holds
     mul-start
-    cut-requires
+    capped-requires
     mul-may-exceed
     shared-slice-read-may-exceed
     slice-aggregate-may-exceed

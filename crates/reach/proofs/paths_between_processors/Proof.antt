@@ -17,11 +17,11 @@ take-between-requires c κs = search needs
 processors-used-requires : tie.Need-processors-used-requires
 processors-used-requires c κs = c .before .before .before .before .before .before .pre .1 .1
 
-slice-aggregate-join-all : tie.Need-slice-aggregate-join-all
-slice-aggregate-join-all c = search needs
+slice-aggregate-merge-all : tie.Need-slice-aggregate-merge-all
+slice-aggregate-merge-all c = search needs
 
-join-all-requires : tie.Need-join-all-requires
-join-all-requires c κs = search needs
+merge-all-requires : tie.Need-merge-all-requires
+merge-all-requires c κs = search needs
 
 returns : tie.Need-returns
 returns c =
@@ -33,7 +33,7 @@ returns c =
     λ delay circled.
     reaches-on source sink delay processor (length processor) (c .before .before .before .processors-used .result) (asked .0)
     (ends-held source sink delay (length processor) (asked .1 .0)) (used .1) circled
-    (c .before .join-all .ensures (edgesOf (processorsOf processor source) (processorsOf processor sink) delay)
+    (c .before .merge-all .ensures (edgesOf (processorsOf processor source) (processorsOf processor sink) delay)
     (through-fewer (used .0) (c .before .before .before .before .before .take-between .ensures delay)))
 
 pub paths-between-processors-spec : {M : Type 1} → statement M
@@ -43,6 +43,6 @@ paths-between-processors-spec =
     slice-aggregate-take-between
     take-between-requires
     processors-used-requires
-    slice-aggregate-join-all
-    join-all-requires
+    slice-aggregate-merge-all
+    merge-all-requires
     returns)

@@ -6,7 +6,7 @@ use native.Mathlib.Omega.{arith}
 use lib.Dec.{eqb}
 use lib.ListN.{length, getD, set, length-replicate}
 use Rattle.records.specs.Columns.{at}
-use Rattle.reach.specs.Reach.{bitAt, processorsOf}
+use Rattle.reach.specs.Reach.{bitIn, processorsOf}
 use Rattle.reach.proofs.Rounds.{Taken, taken-none, taken-more, taken-all}
 use Rattle.reach.proofs.Processors.{looked-up, as-many-processors}
 use Rattle.reach.proofs.take_between.Statement.{statement}
@@ -99,7 +99,7 @@ loop-again c =
       omega arith,
       taken-more (processorsOf processor source) (processorsOf processor sink) j (c .with-bit .result) (c .before .before .before .before .before .before .before .loop .inv .1)
           (ap (λ (k : ℕ). set words k (c .with-bit .result)) (sym from-is)) (omega (arith, from-is, from, c .before .before .before .before .processor-of .ensures))
-          (λ b. c .with-bit .ensures b ∙ (λ i. bitAt words (sym from-is i) b || eqb (sym to-is i) b)),
+          (λ b. c .with-bit .ensures b ∙ (λ i. bitIn words (sym from-is i) b || eqb (sym to-is i) b)),
     )
 
 same-length : tie.Need-same-length Inv-loop μ-loop

@@ -24,13 +24,13 @@ returns c = answer-refused (c .before .before .before .before .before .before .b
 marks-of-requires : tie.Need-marks-of-requires
 marks-of-requires c κs = accepted-reading (c .before .before .before .before .before .before .args .graph .now) (c .before .before .before .before .accept .ensures) (c .if1 .left)
 
-count-requires : tie.Need-count-requires
-count-requires c κs = search needs
+count-set-requires : tie.Need-count-set-requires
+count-set-requires c κs = search needs
 
 returns-2 : tie.Need-returns-2
 returns-2 c =
     answer-read (c .before .before .before .before .before .before .before .before .args .graph .now) (c .before .before .before .before .before .before .accept .ensures) (c .before .before .if1 .left) (c .before .before .before .before .told .ensures)
-    (c .before .marks-of .ensures ∙ ap (λ (g : Graph). marksOf (isRedundant g)) (graph-held (c .before .before .before .before .before .before .before .before .args .graph .now) (c .before .before .before .before .before .before .accept .ensures) (c .before .before .if1 .left))) (c .count .ensures)
+    (c .before .marks-of .ensures ∙ ap (λ (g : Graph). marksOf (isRedundant g)) (graph-held (c .before .before .before .before .before .before .before .before .args .graph .now) (c .before .before .before .before .before .before .accept .ensures) (c .before .before .if1 .left))) (c .count-set .ensures)
 
 pub redundant-spec : {M : Type 1} → statement M
 redundant-spec =
@@ -41,5 +41,5 @@ redundant-spec =
     no-marks-requires
     returns
     marks-of-requires
-    count-requires
+    count-set-requires
     returns-2)

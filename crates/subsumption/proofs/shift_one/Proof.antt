@@ -6,8 +6,8 @@ use Prim.Native.Nat.{_+_, _*_, _≤_}
 use native.Mathlib.Omega.{arith}
 use lib.ListN.{length}
 use borrow.Author.Needs.{needs}
+use Rattle.model.specs.Tasks.{edge}
 use Rattle.records.specs.Columns.{at}
-use Rattle.delays.specs.Delays.{edge}
 use Rattle.updates.proofs.Rows.{row-size, row-at, row-small}
 use Rattle.subsumption.specs.Subsumption.{subsumesBy}
 use Rattle.subsumption.proofs.Shifts.{counted-few, edge-as}

@@ -1,18 +1,18 @@
--- `reach::join_all` meets its contract: after k rounds the paths whose inner count are below k count.
+-- `reach::merge_all` meets its contract: after k rounds the paths whose inner count are below k count.
 use mathlib.Core.Path.{_≡_, sym, _∙_}
 use mathlib.Core.List.{List}
 use Prim.Native.Nat.{_-_, _≤_}
 use native.Mathlib.Omega.{arith}
 use lib.ListN.{length}
 use Rattle.model.specs.Tasks.{Edge}
-use Rattle.reach.specs.Reach.{Through}
+use Rattle.reach.specs.Reach.{ReachesThrough}
 use Rattle.reach.proofs.Rounds.{through-more, through-all}
-use Rattle.reach.proofs.join_all.Statement.{statement}
-use Rattle.reach.proofs.join_all.Tie as tie
+use Rattle.reach.proofs.merge_all.Statement.{statement}
+use Rattle.reach.proofs.merge_all.Tie as tie
 
 abbrev Inv-loop : tie.InvT-loop
 Inv-loop count words₀ k₀ words k =
-    (k ≤ count) × (length words ≡ 16) × ((es : List Edge) → Through 0 count es words₀ → Through k count es words)
+    (k ≤ count) × (length words ≡ 16) × ((es : List Edge) → ReachesThrough 0 count es words₀ → ReachesThrough k count es words)
 
 abbrev μ-loop : tie.MeasureT-loop
 μ-loop count words₀ k₀ words k = count - k
@@ -20,8 +20,8 @@ abbrev μ-loop : tie.MeasureT-loop
 loop-holds : tie.Need-loop-holds Inv-loop μ-loop
 loop-holds c = (omega arith, c .before .pre .1, λ es held. held)
 
-join-through-requires : tie.Need-join-through-requires Inv-loop μ-loop
-join-through-requires c κs = (c .before .loop-test .taken, c .before .before .before .before .pre .0, c .before .before .loop .inv .1)
+merge-through-requires : tie.Need-merge-through-requires Inv-loop μ-loop
+merge-through-requires c κs = (c .before .loop-test .taken, c .before .before .before .before .pre .0, c .before .before .loop .inv .1)
 
 add-k : tie.Need-add-k Inv-loop μ-loop
 add-k c = omega (arith, c .before .before .before .before .before .before .before .pre .0)
@@ -31,7 +31,7 @@ loop-less c = omega arith
 
 loop-again : tie.Need-loop-again Inv-loop μ-loop
 loop-again c =
-    (omega arith, c .before .before .join-through .ensures .room, λ es held. through-more (c .before .before .before .before .before .loop .inv .2 es held) (c .before .before .join-through .ensures) (c .before .before .before .before .loop-test .taken))
+    (omega arith, c .before .before .merge-through .ensures .room, λ es held. through-more (c .before .before .before .before .before .loop .inv .2 es held) (c .before .before .merge-through .ensures) (c .before .before .before .before .loop-test .taken))
 
 same-length : tie.Need-same-length Inv-loop μ-loop
 same-length c = c .before .loop .inv .1 ∙ sym (c .before .before .before .pre .1)
@@ -41,14 +41,14 @@ returns c =
     let whole : c .before .loop .k ≡ c .before .before .before .args .count = omega arith in
     λ es held. through-all (c .before .loop .inv .2 es held) whole
 
-pub join-all-spec : {M : Type 1} → statement M
-join-all-spec =
+pub merge-all-spec : {M : Type 1} → statement M
+merge-all-spec =
     tie.close
     (tie.spec
     Inv-loop
     μ-loop
     loop-holds
-    join-through-requires
+    merge-through-requires
     add-k
     loop-less
     loop-again

@@ -1,13 +1,13 @@
--- `reach::join_through` meets its contract: after a steps the first a words are joined with the row, which was read before any of them changed.
+-- `reach::merge_through` meets its contract: after a steps the first a words are merged with the row, which was read before any of them changed.
 use mathlib.Core.Path.{refl, sym, _∙_}
 use Prim.Native.Nat.{_-_, _≤_}
 use native.Mathlib.Omega.{arith}
-use Rattle.reach.proofs.Rounds.{PartJoined, joined-none, joined-more, joined-all}
-use Rattle.reach.proofs.join_through.Statement.{statement}
-use Rattle.reach.proofs.join_through.Tie as tie
+use Rattle.reach.proofs.Rounds.{PartMerged, merged-none, merged-more, merged-all}
+use Rattle.reach.proofs.merge_through.Statement.{statement}
+use Rattle.reach.proofs.merge_through.Tie as tie
 
 abbrev Inv-loop : tie.InvT-loop
-Inv-loop k count words₀ row a₀ words a = (a ≤ count) × PartJoined a k words₀ words
+Inv-loop k count words₀ row a₀ words a = (a ≤ count) × PartMerged a k words₀ words
 
 abbrev μ-loop : tie.MeasureT-loop
 μ-loop k count words₀ row a₀ words a = count - a
@@ -19,18 +19,18 @@ slice-read-row : tie.Need-slice-read-row Inv-loop μ-loop
 slice-read-row c = omega (arith, c .before .before .pre .0, c .before .before .pre .1, c .before .before .pre .2)
 
 loop-holds : tie.Need-loop-holds Inv-loop μ-loop
-loop-holds c = (omega arith, joined-none (c .before .before .args .k) (c .before .before .args .words .now) (c .before .before .pre .2))
+loop-holds c = (omega arith, merged-none (c .before .before .args .k) (c .before .before .args .words .now) (c .before .before .pre .2))
 
-mul-joined : tie.Need-mul-joined Inv-loop μ-loop
-mul-joined c = omega (arith, c .before .before .before .before .pre .0, c .before .before .before .before .pre .1)
+mul-merged : tie.Need-mul-merged Inv-loop μ-loop
+mul-merged c = omega (arith, c .before .before .before .before .pre .0, c .before .before .before .before .pre .1)
 
-slice-read-joined : tie.Need-slice-read-joined Inv-loop μ-loop
-slice-read-joined c =
+slice-read-merged : tie.Need-slice-read-merged Inv-loop μ-loop
+slice-read-merged c =
     let start = c .before .before .before .before .before in
     omega (arith, start .pre .0, start .pre .1, c .before .before .loop .inv .1 .room)
 
-joined-requires : tie.Need-joined-requires Inv-loop μ-loop
-joined-requires c κs = omega (arith, c .before .before .before .before .before .pre .0, c .before .before .before .before .before .pre .1)
+merged-requires : tie.Need-merged-requires Inv-loop μ-loop
+merged-requires c κs = omega (arith, c .before .before .before .before .before .pre .0, c .before .before .before .before .before .pre .1)
 
 mul-words : tie.Need-mul-words Inv-loop μ-loop
 mul-words c = omega (arith, c .before .before .before .before .before .before .pre .0, c .before .before .before .before .before .before .pre .1)
@@ -49,16 +49,16 @@ loop-less c = omega arith
 loop-again : tie.Need-loop-again Inv-loop μ-loop
 loop-again c =
     let inside = c .before .before .before .before .before .before .pre .1 in
-    (omega arith, joined-more (c .joined .result) (c .before .before .before .loop .inv .1) refl (omega (arith, inside)) (c .joined .ensures))
+    (omega arith, merged-more (c .merged .result) (c .before .before .before .loop .inv .1) refl (omega (arith, inside)) (c .merged .ensures))
 
 same-length : tie.Need-same-length Inv-loop μ-loop
 same-length c = c .before .loop .inv .1 .room ∙ sym (c .before .before .before .before .pre .2)
 
 returns : tie.Need-returns Inv-loop μ-loop
-returns c = joined-all (c .before .loop .inv .1) (omega arith)
+returns c = merged-all (c .before .loop .inv .1) (omega arith)
 
-pub join-through-spec : {M : Type 1} → statement M
-join-through-spec =
+pub merge-through-spec : {M : Type 1} → statement M
+merge-through-spec =
     tie.close
     (tie.spec
     Inv-loop
@@ -66,9 +66,9 @@ join-through-spec =
     mul-row
     slice-read-row
     loop-holds
-    mul-joined
-    slice-read-joined
-    joined-requires
+    mul-merged
+    slice-read-merged
+    merged-requires
     mul-words
     slice-write-words
     add-a

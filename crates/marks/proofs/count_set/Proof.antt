@@ -1,4 +1,4 @@
--- `marks::count` meets its contract: the ones of the four words are the marks set (`count-words`), and a word has at most 64 of them.
+-- `marks::count_set` meets its contract: the ones of the four words are the marks set (`count-words`), and a word has at most 64 of them.
 use Prim.Native.Nat.{ℕ, _≤_, _<_, _^_}
 use native.Mathlib.Omega.{arith}
 use lib.Count.{ones, ones-le}
@@ -6,8 +6,8 @@ use lib.ListN.{getD}
 use mir.Syntax.{w64}
 use borrow.Author.Needs.{needs, elem-fits-field}
 use Rattle.marks.proofs.Laws.{count-words}
-use Rattle.marks.proofs.count.Statement.{statement}
-use Rattle.marks.proofs.count.Tie as tie
+use Rattle.marks.proofs.count_set.Statement.{statement}
+use Rattle.marks.proofs.count_set.Tie as tie
 
 -- each word is below 2 ^ 64
 word-fits : (c : tie.Start) (w : ℕ) → getD (c .args .t1 .words) w 0 < 2 ^ 64
@@ -42,8 +42,8 @@ add-result-3 c =
 returns : tie.Need-returns
 returns c = let start = c .before .before .before .before in omega (arith, count-words (start .args .t1) (word-fits start))
 
-pub count-spec : {M : Type 1} → statement M
-count-spec =
+pub count-set-spec : {M : Type 1} → statement M
+count-set-spec =
     tie.close
     (tie.spec
     element-copy-out-result
