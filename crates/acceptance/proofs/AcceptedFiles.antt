@@ -5,30 +5,28 @@ use mathlib.Core.Logic.{_⊎_, inl, inr, _≢_}
 use mathlib.Core.Bool.{false}
 use mathlib.Core.List.{List}
 use Prim.Native.Nat.{ℕ, _≤_, zero-le}
-use Rattle.model.specs.Compute.{latencyOf, zeroCycle}
-use Rattle.model.proofs.Tests.{decides-no}
-use Rattle.files.specs.Refusals.{ifPassed}
-use Rattle.files.specs.Files.{graphOf, graphRefusal}
-use Rattle.files.proofs.First.{number-same, zero-or-not, if-refused}
-use Rattle.acceptance.specs.Acceptance.{acceptanceRefusal, acceptance, AcceptedReading}
-use Rattle.acceptance.proofs.Judged.{accepted-iff-passed}
-use Rattle.model.specs.Tasks.{Edge}
+use Rattle.model.specs.Tasks.{Edge, Ends}
 use Rattle.model.specs.Graph.{WellFormed, count, edges}
+use Rattle.model.specs.Compute.{latencyOf, zeroCycle}
 use Rattle.model.specs.Proposals.{AcceptedGraph}
-use Rattle.model.proofs.Graphs.{graph-ends}
 use Rattle.model.proofs.Theorems.{zero-cycle-is}
-use Rattle.delays.specs.Delays.{Fit}
+use Rattle.model.proofs.Tests.{decides-no}
+use Rattle.model.proofs.Graphs.{graph-ends}
+use Rattle.files.specs.Files.{graphOf, graphRefusal}
+use Rattle.files.specs.Refusals.{ifPassed}
+use Rattle.files.proofs.First.{number-same, zero-or-not, if-refused, if-passed}
 use Rattle.readings.specs.declared.GraphReading.{GraphReading}
 use Rattle.readings.specs.Working.{graphReading, graphAnswer, refusedGraph, workingGraph, graphIn}
-use Rattle.readings.proofs.Held.{graph-given, graph-in-working}
 use Rattle.readings.proofs.Accepted.{graph-formed}
+use Rattle.readings.proofs.Held.{graph-given, graph-in-working}
+use Rattle.delays.specs.Delays.{Fit}
 use Rattle.acceptance.specs.declared.Acceptance.{Acceptance}
-use Rattle.acceptance.proofs.Fronts.{Fronts, fronts, frontEdges, graph-fit, Within, fronts-within}
-use Rattle.acceptance.specs.Outcomes.{outcome, tasksOf}
 use Rattle.acceptance.specs.declared.Outcome.{Outcome}
+use Rattle.acceptance.specs.Acceptance.{acceptanceRefusal, acceptance, AcceptedReading}
+use Rattle.acceptance.specs.Outcomes.{outcome, tasksOf}
 use Rattle.acceptance.specs.Theorems.{AcceptedFile}
-use Rattle.model.specs.Tasks.{Ends}
-use Rattle.files.proofs.First.{if-passed}
+use Rattle.acceptance.proofs.Fronts.{Fronts, fronts, frontEdges, graph-fit, Within, fronts-within}
+use Rattle.acceptance.proofs.Judged.{accepted-iff-passed}
 
 -- a reading has at most 64 tasks, refused or not
 few-read : (s : List ℕ) → graphReading s .tasks ≤ 64

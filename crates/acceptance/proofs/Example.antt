@@ -3,8 +3,8 @@ use mathlib.Core.Path.{_≡_, sym, subst}
 use Rattle.model.specs.Proposals.{AcceptedGraph}
 use Rattle.model.proofs.Example.{desk-accepted}
 use Rattle.files.specs.Refusals.{notRefused}
-use Rattle.files.proofs.First.{none-refused, number-same}
 use Rattle.files.proofs.Example.{deskBytes, desk-file, desk-passes}
+use Rattle.files.proofs.First.{none-refused, number-same}
 use Rattle.acceptance.specs.Acceptance.{acceptanceRefusal}
 use Rattle.acceptance.proofs.Judged.{accepted-iff-passed}
 

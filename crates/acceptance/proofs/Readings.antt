@@ -8,10 +8,10 @@ use native.Mathlib.Omega.{arith}
 use lib.ListN.{length, take}
 use lib.Seq.{length-take-le}
 use Rattle.model.specs.Graph.{Graph, WellFormed, edges}
-use Rattle.delays.specs.Delays.{Fit}
-use Rattle.starts.specs.Starts.{FileTimes}
 use Rattle.readings.specs.declared.GraphReading.{GraphReading}
 use Rattle.readings.specs.Working.{graphIn}
+use Rattle.starts.specs.Starts.{FileTimes}
+use Rattle.delays.specs.Delays.{Fit}
 use Rattle.acceptance.specs.Acceptance.{AcceptedReading}
 use Rattle.acceptance.proofs.Fronts.{front, frontEdges, Fronts, Within, file-times, working-is, working-within, working-few, working-square, working-fit}
 

@@ -7,19 +7,18 @@ use mathlib.Core.List.{List, [], _∷_}
 use Prim.Native.Nat.{ℕ, _≤_, _<_}
 use native.Mathlib.Omega.{arith}
 use lib.Dec.{ltb}
+use borrow.Author.Tests.{lt-ltb, le-ltb}
 use Rattle.model.specs.Theorems.{Decides}
 use Rattle.model.proofs.Basics.{order}
 use Rattle.model.proofs.Tests.{decides-yes, decides-no, decided, ltb-decides}
 use Rattle.files.specs.declared.Refusal.{Refusal}
-use Rattle.files.specs.Refusals.{refuse, first, notRefused}
 use Rattle.files.specs.Files.{graphOf}
+use Rattle.files.specs.Refusals.{refuse, first, notRefused}
 use Rattle.files.proofs.First.{passes, stops, check-passes, check-stops, no-checks, number-same, zero-or-not, none-refused}
 use Rattle.acceptance.specs.Acceptance.{acceptanceRefusal}
-use Rattle.acceptance.specs.Theorems.{Judged, zero-cycle, input-waits, not-joined, bound-below, passes as in-order}
-use Rattle.acceptance.proofs.Judged.{accepted-iff-passed, refused-iff-judged}
-use borrow.Author.Tests.{lt-ltb, le-ltb}
 use Rattle.acceptance.specs.Outcomes.{outcome, roomRefusal}
-use Rattle.acceptance.specs.Theorems.{AcceptedFile, SuccessPlain, ShortNoPlace, OutcomePlain}
+use Rattle.acceptance.specs.Theorems.{Judged, zero-cycle, input-waits, not-joined, bound-below, passes as in-order, AcceptedFile, SuccessPlain, ShortNoPlace, OutcomePlain}
+use Rattle.acceptance.proofs.Judged.{accepted-iff-passed, refused-iff-judged}
 
 -- ── Chains of checks ──
 

@@ -9,8 +9,8 @@ use Rattle.model.specs.Graph.{Graph, count, edges, timeOf}
 use Rattle.model.specs.Compute.{zeroCycle, inputFree, joined, latency, latencyOf}
 use Rattle.model.specs.Proposals.{AcceptedGraph}
 use Rattle.files.specs.declared.Refusal.{Refusal}
-use Rattle.files.specs.Refusals.{refuse, first, ifPassed}
 use Rattle.files.specs.Files.{graphOf, graphRefusal}
+use Rattle.files.specs.Refusals.{refuse, first, ifPassed}
 use Rattle.readings.specs.declared.GraphReading.{GraphReading}
 use Rattle.readings.specs.Working.{workingGraph, graphReading, graphIn}
 use Rattle.acceptance.specs.declared.Acceptance.{Acceptance}

@@ -5,8 +5,8 @@ use lib.Dec.{ltb}
 use lib.IntN.{pos}
 use Rattle.model.specs.Graph.{count}
 use Rattle.files.specs.declared.Refusal.{Refusal}
-use Rattle.files.specs.Refusals.{refuse}
 use Rattle.files.specs.Files.{graphOf}
+use Rattle.files.specs.Refusals.{refuse}
 use Rattle.acceptance.specs.declared.Outcome.{Outcome}
 
 -- "A refusal returns number, place, latency and margin. Place, latency and margin are 0 unless named below." Only 15 names latency and margin.

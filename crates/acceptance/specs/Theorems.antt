@@ -11,8 +11,8 @@ use Rattle.model.specs.Paths.{ZeroCycle, NoZeroCycle, InputFree, Joined, Latenc
 use Rattle.model.specs.Runs.{NeverStalls}
 use Rattle.model.specs.Proposals.{AcceptedGraph}
 use Rattle.files.specs.declared.Refusal.{Refusal}
-use Rattle.files.specs.Refusals.{notRefused}
 use Rattle.files.specs.Files.{graphOf, graphRefusal}
+use Rattle.files.specs.Refusals.{notRefused}
 use Rattle.acceptance.specs.Acceptance.{scheduleRefusal, acceptanceRefusal}
 use Rattle.acceptance.specs.Outcomes.{outcome, roomRefusal}
 

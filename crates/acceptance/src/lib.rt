@@ -1,16 +1,16 @@
 // The entry of every call: a graph file judged up to 12 and handed over by value, refusal 16 of a list too short, and the outcome that a call gives.
 ghost use mathlib.Core.Path.{_≡_};
 ghost use mathlib.Core.Bool.{not, _&&_};
+ghost use mathlib.Core.List.{[], _∷_};
 ghost use Prim.Native.Nat.{_≤_, _<_};
 ghost use lib.Dec.{eqb};
 ghost use lib.ListN.{length};
-ghost use mathlib.Core.List.{[], _∷_};
-ghost use Rattle.files.specs.Refusals.{first, ifPassed};
 ghost use Rattle.model.specs.Compute.{latency};
 ghost use Rattle.records.specs.Columns.{edgesOf, at};
+ghost use Rattle.files.specs.Refusals.{first, ifPassed};
 ghost use Rattle.reach.specs.Reach.{bit};
-ghost use Rattle.delays.specs.Delays.{Fit};
 ghost use Rattle.starts.specs.Starts.{FileTimes};
+ghost use Rattle.delays.specs.Delays.{Fit};
 ghost use Rattle.acceptance.specs.Acceptance.{scheduleChecks, acceptance};
 ghost use Rattle.acceptance.specs.Outcomes.{outcome, roomRefusal};
 use files::PASSED;

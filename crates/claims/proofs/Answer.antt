@@ -8,22 +8,22 @@ use native.Mathlib.Omega.{arith}
 use Rattle.model.specs.Tasks.{Edge}
 use Rattle.model.specs.Graph.{Graph, WellFormedEdges, count}
 use Rattle.files.specs.declared.Refusal.{Refusal}
-use Rattle.files.specs.Refusals.{first}
 use Rattle.files.specs.Files.{graphOf, proposalOf, proposalRefusal}
+use Rattle.files.specs.Refusals.{first}
 use Rattle.files.proofs.First.{passes, stops, number-same, zero-or-not, last-answer}
 use Rattle.files.proofs.Numbers.{proposal-numbers}
-use Rattle.readings.proofs.Passed.{head-passed, tail-passed}
 use Rattle.readings.proofs.Accepted.{proposal-formed}
+use Rattle.readings.proofs.Passed.{head-passed, tail-passed}
 use Rattle.acceptance.specs.Acceptance.{acceptanceRefusal}
+use Rattle.acceptance.specs.Outcomes.{tasksOf}
+use Rattle.acceptance.specs.Theorems.{AcceptedFile}
 use Rattle.acceptance.proofs.Judged.{accepted-iff-passed}
+use Rattle.acceptance.proofs.Rooms.{up-to-12}
 use Rattle.judgement.specs.Judgement.{judgedRefusal}
 use Rattle.judgement.specs.Theorems.{Sentenced}
 use Rattle.judgement.proofs.Meanings.{sentenced-iff}
-use Rattle.acceptance.specs.Outcomes.{tasksOf}
-use Rattle.acceptance.specs.Theorems.{AcceptedFile}
-use Rattle.acceptance.proofs.Rooms.{up-to-12}
-use Rattle.verdict.specs.Verdict.{VerdictAnswer, verdictOf, verdictRefusal, toldLate}
 use Rattle.verdict.specs.declared.ProposalVerdict.{ProposalVerdict}
+use Rattle.verdict.specs.Verdict.{VerdictAnswer, verdictOf, verdictRefusal, toldLate}
 use Rattle.claims.specs.Demand3.{WellFormedFile}
 
 -- what the proposed edges get, with the answer's place

@@ -17,24 +17,24 @@ use Rattle.model.specs.Proposals.{result, AcceptedGraph}
 use Rattle.model.proofs.Basics.{member-place}
 use Rattle.model.proofs.Tests.{decided, decides-yes, decides-no}
 use Rattle.files.specs.declared.Refusal.{Refusal}
-use Rattle.files.specs.Refusals.{ifPassed}
 use Rattle.files.specs.Files.{graphOf, proposalOf, edgeIn}
+use Rattle.files.specs.Refusals.{ifPassed}
 use Rattle.files.proofs.First.{zero-or-not, check-passes}
 use Rattle.readings.specs.declared.ProposalReading.{ProposalReading}
 use Rattle.readings.specs.Working.{proposalReading}
 use Rattle.acceptance.specs.declared.Acceptance.{Acceptance}
 use Rattle.acceptance.specs.Acceptance.{acceptance}
+use Rattle.acceptance.specs.Outcomes.{outcome}
+use Rattle.acceptance.proofs.AcceptedFiles.{accepted as file-accepted}
 use Rattle.judgement.specs.declared.Judgement.{Judgement}
 use Rattle.judgement.specs.Judgement.{someOnCycle, judgedRefusal, tellsLatency, judgement, OpenPlace}
 use Rattle.judgement.specs.Theorems.{Sentenced, cycle-made, order-lost, late, accepted}
 use Rattle.judgement.proofs.Chain.{stops-13}
-use Rattle.judgement.proofs.Tested.{some-on-cycle}
 use Rattle.judgement.proofs.Meanings.{sentenced-iff}
-use Rattle.acceptance.specs.Outcomes.{outcome}
-use Rattle.acceptance.proofs.AcceptedFiles.{accepted as file-accepted}
-use Rattle.verdict.proofs.Answers.{graph-refused, proposal-refused, edges-formed, judged-answer}
-use Rattle.verdict.specs.Verdict.{VerdictAnswer, margin, toldLate}
+use Rattle.judgement.proofs.Tested.{some-on-cycle}
 use Rattle.verdict.specs.declared.ProposalVerdict.{ProposalVerdict}
+use Rattle.verdict.specs.Verdict.{VerdictAnswer, margin, toldLate}
+use Rattle.verdict.proofs.Answers.{graph-refused, proposal-refused, edges-formed, judged-answer}
 
 place-of : {e : Edge} {es : List Edge} → e ∈ es → (j : ℕ) × (j < length es) × (edgeIn es j ≡ e)
 unfolding edgeIn

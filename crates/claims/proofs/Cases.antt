@@ -9,7 +9,6 @@ use native.Mathlib.Omega.{arith}
 use lib.Dec.{ltb, lit<}
 use lib.IntN.{pos, negsuc}
 use lib.ListN.{length, drop, getD}
-use Rattle.bits.specs.Bits.{bitAt, field}
 use Rattle.model.specs.Lists.{tabulate, anyBelow, counted}
 use Rattle.model.specs.Tasks.{Edge, processorOf, edge}
 use Rattle.model.specs.Processors.{processorEdges}
@@ -17,36 +16,35 @@ use Rattle.model.specs.Graph.{Graph, count, edges, timeOf}
 use Rattle.model.specs.Paths.{syncAt}
 use Rattle.model.specs.Compute.{leastDelay, isRedundant, sameEdge, zeroCycle, inputFree, joined, earliest, latency, latencyOf, onCycle, orderHolds}
 use Rattle.model.specs.Proposals.{result}
-use Rattle.model.specs.Example.{deskBound, looped as loopedEdges}
 use Rattle.model.specs.Plan.{Planned, planOf, planLatency}
+use Rattle.model.specs.Example.{deskBound, looped as loopedEdges}
 use Rattle.model.proofs.Example.{desk-on-cycle, desk-plan, desk-plan-at-nine}
-use Rattle.records.specs.Columns.{rows}
-use Rattle.marks.specs.Marks.{number, wordOf, marksOf}
+use Rattle.bits.specs.Bits.{bitAt, field}
 use Rattle.layout.specs.Layout.{graphHeader, proposalHeader, taskAt, edgeAt, filling}
+use Rattle.records.specs.Columns.{rows}
 use Rattle.files.specs.declared.Refusal.{Refusal}
-use Rattle.files.specs.Refusals.{notRefused, refuse, choose, first, ifPassed}
 use Rattle.files.specs.Files.{edgesFrom, graphOf, proposalOf, edgeIn, endOutside, withinProcessor, repeatsEarlier, timeRefusal, endsRefusal, edgeRefusal, repeatRefusal, firstOf, graphBits, proposalBits, graphHeaderRefusal, proposalHeaderRefusal, lengthRefusal, fillingRefusal, zerosRefusal, headerEndsRefusal, graphFrameRefusal, graphRecordsRefusal, graphRefusal, proposalFrameRefusal, proposedEdgesRefusal, proposalRefusal}
+use Rattle.files.specs.Refusals.{notRefused, refuse, choose, first, ifPassed}
 use Rattle.files.proofs.First.{number-same, if-passed}
-use Rattle.delays.specs.Delays.{entry, delayRow, delayTable}
+use Rattle.marks.specs.Marks.{number, wordOf, marksOf}
 use Rattle.starts.specs.Starts.{turnRow, turnRows}
-use Rattle.stages.specs.Stages.{writtenInto}
+use Rattle.delays.specs.Delays.{entry, delayRow, delayTable}
 use Rattle.acceptance.specs.Acceptance.{scheduleChecks, scheduleRefusal, acceptanceRefusal}
-use Rattle.acceptance.proofs.Judged.{accepted-iff-passed}
-use Rattle.judgement.specs.Judgement.{someOnCycle, lostRefusal, judgedRefusal, OpenPlace}
 use Rattle.acceptance.specs.Outcomes.{outcome, tasksOf}
 use Rattle.acceptance.specs.Theorems.{AcceptedFile}
-use Rattle.least_delays.proofs.Meanings.{delays-given}
+use Rattle.acceptance.proofs.Judged.{accepted-iff-passed}
 use Rattle.least_delays.specs.LeastDelays.{tableOf, delaysRefusal, delaysAfter}
+use Rattle.least_delays.proofs.Meanings.{delays-given, delays-plain}
 use Rattle.redundant.specs.Redundant.{noMarks, redundantOf}
-use Rattle.timetable.proofs.Given.{timetable-given}
 use Rattle.timetable.specs.Timetable.{startsOf, timetableRefusal, timetableAfter}
-use Rattle.verdict.specs.Verdict.{VerdictAnswer, verdictOf, verdictRefusal, toldLate, countedMargin, margin, resultLatency}
+use Rattle.timetable.proofs.Given.{timetable-given, timetable-plain}
+use Rattle.judgement.specs.Judgement.{someOnCycle, lostRefusal, judgedRefusal, OpenPlace}
 use Rattle.verdict.specs.declared.ProposalVerdict.{ProposalVerdict}
-use Rattle.plan.proofs.Meanings.{plan-given, plan-plain}
+use Rattle.verdict.specs.Verdict.{VerdictAnswer, verdictOf, verdictRefusal, toldLate, countedMargin, margin, resultLatency}
+use Rattle.stages.specs.Stages.{writtenInto}
 use Rattle.plan.specs.Plan.{planRefusal, planAnswerOf, planAfter}
+use Rattle.plan.proofs.Meanings.{plan-given, plan-plain}
 use Rattle.claims.specs.Cases.{Case, delays, first-word, starts, plan, verdict, on-cycle, accepted, refused, Holds, deskFile, exampleFile, exampleProposal, emptyProposal, firstOnly, delayed, loopedFile, cases, AllHold}
-use Rattle.least_delays.proofs.Meanings.{delays-plain}
-use Rattle.timetable.proofs.Given.{timetable-plain}
 
 -- ── The graph files ──
 

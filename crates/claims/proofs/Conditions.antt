@@ -7,12 +7,12 @@ use Prim.Native.Nat.{ℕ, zero, suc, _+_, _*_, _-_, _≤_, _<_}
 use native.Mathlib.Omega.{arith}
 use lib.Dec.{T, eqb, ltb}
 use lib.ListN.{length}
-use Rattle.bits.specs.Bits.{bitAt, field}
-use Rattle.bits.proofs.Laws.{zero-bits}
-use Rattle.layout.specs.Layout.{filling}
 use Rattle.model.specs.Tasks.{Task, Edge}
 use Rattle.model.specs.Theorems.{Decides}
 use Rattle.model.proofs.Tests.{decided, decides-iff, decides-true, decides-not, eqb-decides, ltb-decides}
+use Rattle.bits.specs.Bits.{bitAt, field}
+use Rattle.bits.proofs.Laws.{zero-bits}
+use Rattle.layout.specs.Layout.{filling}
 use Rattle.files.specs.Files.{endOutside, withinProcessor}
 use Rattle.claims.specs.Demand1.{Outside, FillingBit, NotBelow, SameProcessor}
 

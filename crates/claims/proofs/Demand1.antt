@@ -11,28 +11,28 @@ use Rattle.files.specs.declared.Refusal.{Refusal}
 use Rattle.files.specs.Files.{taskCount, edgeCount, graphRefusal, proposalRefusal}
 use Rattle.readings.specs.Working.{graphReading, proposalReading}
 use Rattle.readings.proofs.Held.{graph-refusal-given, proposal-refusal-given}
-use Rattle.acceptance.specs.Acceptance.{acceptanceRefusal}
 use Rattle.acceptance.specs.declared.Outcome.{Outcome}
+use Rattle.acceptance.specs.Acceptance.{acceptanceRefusal}
 use Rattle.acceptance.specs.Outcomes.{outcome}
 use Rattle.acceptance.proofs.Rooms.{success-plain}
-use Rattle.figures.proofs.Meanings.{figures-refused}
 use Rattle.figures.specs.Figures.{figuresOf}
-use Rattle.least_delays.proofs.Lists.{delays-kept}
+use Rattle.figures.proofs.Meanings.{figures-refused}
 use Rattle.least_delays.specs.LeastDelays.{delaysRefusal}
-use Rattle.redundant.proofs.Meanings.{redundant-refused}
+use Rattle.least_delays.proofs.Lists.{delays-kept}
+use Rattle.least_delays.proofs.Meanings.{delays-plain}
 use Rattle.redundant.specs.Redundant.{redundantOf}
-use Rattle.timetable.proofs.Lists.{timetable-kept}
+use Rattle.redundant.proofs.Meanings.{redundant-refused}
 use Rattle.timetable.specs.Timetable.{timetableRefusal}
-use Rattle.plan.proofs.Meanings.{plan-plain, plan-refused, plan-kept}
+use Rattle.timetable.proofs.Given.{timetable-plain}
+use Rattle.timetable.proofs.Lists.{timetable-kept}
 use Rattle.plan.specs.Plan.{planRefusal, planAnswerOf}
+use Rattle.plan.proofs.Meanings.{plan-plain, plan-refused, plan-kept}
 use Rattle.claims.specs.Demand1.{Sequence, Says, _when_, graphFileChecks, proposalFileChecks, graphChecks, delaysChecks, timetableChecks, planChecks, verdictChecks, Obeys, Demand1}
-use Rattle.claims.proofs.Sequences.{Follows, says, All, all-both, OnePlace, settled, says-one}
+use Rattle.claims.proofs.Answered.{answered}
 use Rattle.claims.proofs.Followed.{graph-file-follows, graph-file-earlier, proposal-file-follows, proposal-file-earlier, graph-follows, graph-earlier, delays-follow, timetable-follows, plan-follows}
 use Rattle.claims.proofs.Passed.{graph-file-plain, proposal-file-plain}
-use Rattle.claims.proofs.Answered.{answered}
+use Rattle.claims.proofs.Sequences.{Follows, says, All, all-both, OnePlace, settled, says-one}
 use Rattle.claims.proofs.Verdicts.{verdict-settled, verdict-says, place-passed, verdict-unnamed, verdict-plain, verdict-late}
-use Rattle.least_delays.proofs.Meanings.{delays-plain}
-use Rattle.timetable.proofs.Given.{timetable-plain}
 
 module _ (checks : Sequence) (one-place : All OnePlace checks) where
   obeys :

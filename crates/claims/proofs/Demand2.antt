@@ -20,12 +20,12 @@ use Rattle.model.specs.Paths.{Least, Redundant, Latency, NoneOnCycle}
 use Rattle.model.specs.Runs.{Times, Keeps, Earliest, estimates, MissesBound}
 use Rattle.model.specs.Compute.{isFeedback}
 use Rattle.model.specs.Proposals.{result}
-use Rattle.model.specs.Plan.{presentEdges, Plan, planOf}
 use Rattle.model.specs.Theorems.{Decides}
+use Rattle.model.specs.Plan.{presentEdges, Plan, planOf}
+use Rattle.model.proofs.Theorems.{least-unique, result-misses}
 use Rattle.model.proofs.Basics.{eq→eqb}
 use Rattle.model.proofs.Tests.{decides-true, decides-yes, decides-no, decided, eqb-decides}
 use Rattle.model.proofs.Graphs.{graph-ends}
-use Rattle.model.proofs.Theorems.{least-unique, result-misses}
 use Rattle.model.proofs.Plans.{stage-shrinks, plan-is, plan-unique}
 use Rattle.layout.specs.declared.EdgeRecord.{EdgeRecord}
 use Rattle.files.specs.Files.{graphOf, proposalOf}
@@ -35,25 +35,25 @@ use Rattle.marks.specs.declared.Marks.{Marks}
 use Rattle.marks.specs.Marks.{bitOf, markAt, setBelow, placesBelow, placesOf}
 use Rattle.marks.proofs.Listed.{places-counted, places-ascend}
 use Rattle.delays.specs.Delays.{entry}
-use Rattle.judgement.specs.Theorems.{Sentenced, cycle-made, order-lost, late, accepted}
-use Rattle.judgement.proofs.Meanings.{judged-latency}
 use Rattle.acceptance.specs.Outcomes.{outcome, tasksOf}
 use Rattle.acceptance.specs.Theorems.{AcceptedFile}
 use Rattle.figures.proofs.Meanings.{figures-given, figures-mean, figures-run}
+use Rattle.least_delays.specs.LeastDelays.{delaysAfter}
 use Rattle.least_delays.proofs.Lists.{delays-past}
 use Rattle.least_delays.proofs.Meanings.{delays-given, delays-mean, delays-small}
-use Rattle.least_delays.specs.LeastDelays.{delaysAfter}
-use Rattle.redundant.proofs.Meanings.{redundant-given, redundant-mean, redundant-counted, redundant-listed}
 use Rattle.redundant.specs.Redundant.{redundantOf}
+use Rattle.redundant.proofs.Meanings.{redundant-given, redundant-mean, redundant-counted, redundant-listed}
+use Rattle.timetable.specs.Timetable.{timetableAfter}
 use Rattle.timetable.proofs.Given.{timetable-given}
 use Rattle.timetable.proofs.Lists.{timetable-past}
 use Rattle.timetable.proofs.Meanings.{timetable-mean, timetable-runs}
-use Rattle.timetable.specs.Timetable.{timetableAfter}
-use Rattle.verdict.specs.Verdict.{VerdictAnswer, verdictOf, verdictRefusal, toldLate, countedMargin, margin, resultLatency}
+use Rattle.judgement.specs.Theorems.{Sentenced, cycle-made, order-lost, late, accepted}
+use Rattle.judgement.proofs.Meanings.{judged-latency}
 use Rattle.verdict.specs.declared.ProposalVerdict.{ProposalVerdict}
-use Rattle.plan.proofs.Meanings.{plan-given, plan-refused, plan-past, plan-means}
-use Rattle.plan.specs.Plan.{planRefusal, planAnswerOf, planAfter}
+use Rattle.verdict.specs.Verdict.{VerdictAnswer, verdictOf, verdictRefusal, toldLate, countedMargin, margin, resultLatency}
 use Rattle.stages.specs.Stages.{listed}
+use Rattle.plan.specs.Plan.{planRefusal, planAnswerOf, planAfter}
+use Rattle.plan.proofs.Meanings.{plan-given, plan-refused, plan-past, plan-means}
 use Rattle.claims.specs.Demand2.{Demand2, delayIn, markBit, startIn, planListed}
 use Rattle.claims.specs.Demand3.{WellFormedFile}
 use Rattle.claims.proofs.Answer.{number-is, only-judged, all-passed, edges-formed, sentenced}

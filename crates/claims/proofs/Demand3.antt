@@ -8,38 +8,38 @@ use Prim.Native.Nat.{ℕ, _≤_}
 use native.Mathlib.Nat.{le-trans}
 use native.Mathlib.Omega.{arith}
 use lib.ListN.{length}
-use Rattle.model.specs.Tasks.{Edge, _∈_, Ends}
 use Rattle.model.specs.Lists.{counted}
+use Rattle.model.specs.Tasks.{Edge, _∈_, Ends}
 use Rattle.model.specs.Graph.{Graph, WellFormedEdges, count, edges, timeOf}
 use Rattle.model.specs.Paths.{OnCycle, NoneOnCycle}
 use Rattle.model.specs.Runs.{RunsAllowed, SomeRunBreaks}
 use Rattle.model.specs.Compute.{earliest, latencyOf}
 use Rattle.model.specs.Proposals.{result, AcceptedGraph, AcceptedProposal}
-use Rattle.model.specs.Plan.{planOf, planLatency}
 use Rattle.model.specs.Theorems.{Resynchronizes}
-use Rattle.model.proofs.Graphs.{graph-ends}
+use Rattle.model.specs.Plan.{planOf, planLatency}
 use Rattle.model.proofs.Theorems.{earliest-run, never-stalls-iff, first-output, accepted-result, accepted-iff}
-use Rattle.model.proofs.Stages.{stage-accepted, stage-resynchronizes}
+use Rattle.model.proofs.Graphs.{graph-ends}
 use Rattle.model.proofs.Plans.{plan-is}
+use Rattle.model.proofs.Stages.{stage-accepted, stage-resynchronizes}
 use Rattle.layout.specs.declared.EdgeRecord.{EdgeRecord}
 use Rattle.files.specs.declared.Refusal.{Refusal}
-use Rattle.files.specs.Refusals.{notRefused}
 use Rattle.files.specs.Files.{graphOf, proposalOf}
+use Rattle.files.specs.Refusals.{notRefused}
 use Rattle.files.proofs.First.{none-refused}
+use Rattle.acceptance.specs.Outcomes.{tasksOf}
+use Rattle.acceptance.specs.Theorems.{AcceptedFile}
 use Rattle.judgement.specs.Judgement.{judgedRefusal, tellsLatency, judgement}
 use Rattle.judgement.specs.Theorems.{Sentenced, cycle-made, order-lost, late, accepted}
 use Rattle.judgement.proofs.Meanings.{accepted-by-paths}
-use Rattle.acceptance.specs.Outcomes.{tasksOf}
-use Rattle.acceptance.specs.Theorems.{AcceptedFile}
-use Rattle.verdict.specs.Verdict.{VerdictAnswer, resultLatency}
 use Rattle.verdict.specs.declared.ProposalVerdict.{ProposalVerdict}
-use Rattle.plan.proofs.Meanings.{plan-given, latency-told, edges-listed}
+use Rattle.verdict.specs.Verdict.{VerdictAnswer, resultLatency}
 use Rattle.plan.specs.Plan.{planRefusal, planAnswerOf}
+use Rattle.plan.proofs.Meanings.{plan-given, latency-told, edges-listed}
 use Rattle.claims.specs.Demand2.{planListed}
 use Rattle.claims.specs.Demand3.{Demand3, WellFormedFile, resultGraph, RunBreaks, Late}
-use Rattle.claims.proofs.Passed.{graph-passes, proposal-passes}
-use Rattle.claims.proofs.Demand2.{latency-told as verdict-latency, plan-not-refused}
 use Rattle.claims.proofs.Answer.{only-judged, all-passed, edges-formed, number-judged, sentenced}
+use Rattle.claims.proofs.Demand2.{latency-told as verdict-latency, plan-not-refused}
+use Rattle.claims.proofs.Passed.{graph-passes, proposal-passes}
 
 -- An accepted graph allows its own runs and has its own cycles; it never stalls, and its latency is within the bound.
 pub original-kept : (g : Graph) → AcceptedGraph g → Resynchronizes g g

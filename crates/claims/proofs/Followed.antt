@@ -7,27 +7,27 @@ use Prim.Native.Nat.{ℕ, suc, _*_, _≤_, _<_}
 use native.Mathlib.Omega.{arith}
 use lib.Dec.{ltb}
 use lib.ListN.{length}
-use Rattle.layout.specs.Layout.{graphHeader, proposalHeader, bytesFor}
 use Rattle.model.specs.Tasks.{Edge}
 use Rattle.model.specs.Graph.{Graph, WellFormed, edges, timeOf}
 use Rattle.model.specs.Paths.{InputFree, Joined, Latency}
 use Rattle.model.specs.Theorems.{Decides}
-use Rattle.model.proofs.Tests.{decided, eqb-decides, ltb-decides}
 use Rattle.model.proofs.Theorems.{latency-unique}
+use Rattle.model.proofs.Tests.{decided, eqb-decides, ltb-decides}
+use Rattle.layout.specs.Layout.{graphHeader, proposalHeader, bytesFor}
 use Rattle.files.specs.Files.{taskCount, edgeCount, graphBits, proposalBits, graphOf, proposalOf, edgeIn, timeRefusal, endsRefusal, edgeRefusal, repeatRefusal, graphHeaderRefusal, proposalHeaderRefusal, lengthRefusal, fillingRefusal, zerosRefusal, headerEndsRefusal, graphFrameRefusal, graphRecordsRefusal, graphRefusal, proposalFrameRefusal, proposedEdgesRefusal, proposalRefusal}
 use Rattle.files.proofs.Repeats.{repeats-earlier-is}
-use Rattle.readings.proofs.Whole.{task-count, sync-count, proposal-count}
 use Rattle.readings.proofs.Accepted.{graph-formed}
+use Rattle.readings.proofs.Whole.{task-count, sync-count, proposal-count}
 use Rattle.acceptance.specs.Acceptance.{scheduleRefusal, acceptanceRefusal}
+use Rattle.acceptance.specs.Outcomes.{roomRefusal, tasksOf}
 use Rattle.acceptance.specs.Theorems.{Judged, zero-cycle, input-waits, not-joined, bound-below, passes}
 use Rattle.acceptance.proofs.Judged.{judged-iff, no-place}
-use Rattle.acceptance.specs.Outcomes.{roomRefusal, tasksOf}
 use Rattle.least_delays.specs.LeastDelays.{delaysRefusal}
 use Rattle.timetable.specs.Timetable.{turnsRefusal, timetableRefusal}
 use Rattle.plan.specs.Plan.{planRefusal}
 use Rattle.claims.specs.Demand1.{Sequence, _at_when_, _when_, _then_, each, Outside, FillingBit, NotBelow, SameProcessor, SameAsEarlier, InputWaits, NotJoined, BoundBelow, graphFileChecks, nineToTwelve, graphChecks, proposalFileChecks, delaysChecks, timetableChecks, planChecks}
-use Rattle.claims.proofs.Sequences.{Follows, passing, stopping, one, check-then, and-then, only, each-follows, All, all-both, all-each, Earlier, low}
 use Rattle.claims.proofs.Conditions.{decides-or, differs, outside, not-below, end-outside, within-processor, filling-bit}
+use Rattle.claims.proofs.Sequences.{Follows, passing, stopping, one, check-then, and-then, only, each-follows, All, all-both, all-each, Earlier, low}
 
 -- ── What both files have ──
 

@@ -5,19 +5,19 @@ use mathlib.Core.Logic.{_↔_}
 use mathlib.Core.List.{List}
 use Prim.Native.Nat.{ℕ}
 use Rattle.files.specs.declared.Refusal.{Refusal}
-use Rattle.files.specs.Refusals.{notRefused}
 use Rattle.files.specs.Files.{taskCount, graphRefusal, proposalRefusal}
+use Rattle.files.specs.Refusals.{notRefused}
 use Rattle.files.proofs.First.{none-refused}
 use Rattle.readings.proofs.Whole.{task-count}
 use Rattle.acceptance.specs.Acceptance.{acceptanceRefusal}
-use Rattle.acceptance.proofs.Judged.{accepted-iff-passed}
 use Rattle.acceptance.specs.Outcomes.{tasksOf}
 use Rattle.acceptance.specs.Theorems.{AcceptedFile}
+use Rattle.acceptance.proofs.Judged.{accepted-iff-passed}
 use Rattle.acceptance.proofs.Rooms.{success-plain}
 use Rattle.claims.specs.Demand1.{Sequence, Says, graphChecks, proposalFileChecks}
 use Rattle.claims.specs.Demand3.{WellFormedFile}
-use Rattle.claims.proofs.Sequences.{Follows, says, says-one, All, OnePlace, settled}
 use Rattle.claims.proofs.Followed.{graph-follows, graph-earlier, proposal-file-follows, proposal-file-earlier}
+use Rattle.claims.proofs.Sequences.{Follows, says, says-one, All, OnePlace, settled}
 
 -- a file that is read has no refusal, so no place of one
 pub graph-file-plain : (s : List ℕ) → graphRefusal s .number ≡ 0 → graphRefusal s ≡ notRefused

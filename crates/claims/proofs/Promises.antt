@@ -8,8 +8,8 @@ use prog.Memory.{Memory}
 use prog.Routine.{Routine}
 use prog.Wp.{Heap}
 use ghost.Atoms.{Atoms}
-use contract.Monad.{Fun, fact}
 use contract.Lifetimes.{Lfts}
+use contract.Monad.{Fun, fact}
 use Rattle.plan.specs.declared.PlanAnswer.{PlanAnswer}
 use Rattle.plan.specs.Plan.{planAnswerOf, planAfter}
 use Rattle.resync_c.proofs.resync_plan as exported

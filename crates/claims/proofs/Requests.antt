@@ -9,13 +9,13 @@ use lib.ListN.{length, getD, drop, List·getD-append}
 use Rattle.model.specs.Tasks.{Edge}
 use Rattle.model.specs.Graph.{edges}
 use Rattle.records.proofs.Rows.{place-within}
-use Rattle.delays.specs.Delays.{delayTable, withRow, rowsFrom}
-use Rattle.delays.proofs.Table.{table-length, rows-none, rows-next, rows-all, rows-size, rows-made, rows-other, row-size, row-made, row-other}
 use Rattle.files.specs.Files.{graphOf}
 use Rattle.files.proofs.First.{if-passed}
+use Rattle.delays.specs.Delays.{delayTable, withRow, rowsFrom}
+use Rattle.delays.proofs.Table.{table-length, rows-none, rows-next, rows-all, rows-size, rows-made, rows-other, row-size, row-made, row-other}
 use Rattle.acceptance.specs.Outcomes.{outcome, tasksOf}
-use Rattle.least_delays.proofs.Meanings.{delays-given, delays-mean, delays-small}
 use Rattle.least_delays.specs.LeastDelays.{tableOf, delaysRefusal, delaysAfter}
+use Rattle.least_delays.proofs.Meanings.{delays-given, delays-mean, delays-small}
 use Rattle.claims.specs.Demand2.{delayIn}
 use Rattle.claims.specs.Requests.{RowByRow, rowMade}
 use Rattle.claims.proofs.Demand2.{delay-read, none-read}

@@ -12,8 +12,8 @@ use Rattle.model.specs.Lists.{tabulate}
 use Rattle.model.specs.Theorems.{Decides}
 use Rattle.model.proofs.Tests.{decided, decides-yes, decides-no}
 use Rattle.files.specs.declared.Refusal.{Refusal}
-use Rattle.files.specs.Refusals.{refuse, first}
 use Rattle.files.specs.Files.{firstOf}
+use Rattle.files.specs.Refusals.{refuse, first}
 use Rattle.files.proofs.First.{passes, stops, refused, not-refused, number-same, no-checks, zero-or-not, passed-all, stopped-before}
 use Rattle.claims.specs.Demand1.{Check, Sequence, Says, _at_when_, _then_, each}
 

@@ -19,26 +19,26 @@ use Rattle.model.specs.Runs.{RunsAllowed, MissesBound}
 use Rattle.model.specs.Compute.{orderHolds, latencyOf}
 use Rattle.model.specs.Proposals.{result, AcceptedGraph}
 use Rattle.model.specs.Theorems.{Decides}
+use Rattle.model.proofs.Theorems.{result-orders, result-lost, result-misses}
 use Rattle.model.proofs.Basics.{order}
 use Rattle.model.proofs.Tests.{decides-iff, decides-yes, decides-no, eqb-decides}
-use Rattle.model.proofs.Theorems.{result-orders, result-lost, result-misses}
 use Rattle.files.specs.declared.Refusal.{Refusal}
 use Rattle.files.specs.Files.{taskCount, graphOf, proposalOf, proposalRefusal}
 use Rattle.files.proofs.First.{passes, stops, number-same, zero-or-not, last-answer, none-refused, if-refused}
-use Rattle.readings.proofs.Whole.{task-count}
 use Rattle.readings.proofs.Accepted.{proposal-formed}
+use Rattle.readings.proofs.Whole.{task-count}
 use Rattle.acceptance.specs.Acceptance.{acceptanceRefusal}
+use Rattle.acceptance.specs.Outcomes.{tasksOf}
 use Rattle.acceptance.proofs.Judged.{accepted-iff-passed}
 use Rattle.judgement.specs.Judgement.{someOnCycle, lostRefusal, judgedRefusal, OpenPlace}
 use Rattle.judgement.specs.Theorems.{Sentenced, cycle-made, order-lost, late, accepted, FirstLost}
-use Rattle.judgement.proofs.Tested.{off-cycles-of}
 use Rattle.judgement.proofs.Meanings.{sentenced-iff, lost-place, judged-latency}
-use Rattle.acceptance.specs.Outcomes.{tasksOf}
-use Rattle.verdict.specs.Verdict.{margin, verdictRefusal, countedMargin, toldLate, resultLatency, verdictOf, VerdictAnswer}
+use Rattle.judgement.proofs.Tested.{off-cycles-of}
 use Rattle.verdict.specs.declared.ProposalVerdict.{ProposalVerdict}
+use Rattle.verdict.specs.Verdict.{margin, verdictRefusal, countedMargin, toldLate, resultLatency, verdictOf, VerdictAnswer}
 use Rattle.claims.specs.Demand1.{Check, Sequence, _at_when_, _when_, _then_, each, Says, CycleMade, SomeOrderLost, graphChecks, proposalFileChecks, proposedChecks, verdictChecks, LateTold}
-use Rattle.claims.proofs.Sequences.{Follows, passing, stopping, one, check-then, and-then, only, each-follows, says, All, all-both, all-each, OnePlace, settled, answers-so, earlier-low}
 use Rattle.claims.proofs.Followed.{in-time, graph-follows, graph-earlier, proposal-file-follows, proposal-file-earlier}
+use Rattle.claims.proofs.Sequences.{Follows, passing, stopping, one, check-then, and-then, only, each-follows, says, All, all-both, all-each, OnePlace, settled, answers-so, earlier-low}
 
 -- ── Places ──
 

@@ -9,14 +9,14 @@ use lib.ListN.{length, drop, getD}
 use Rattle.model.specs.Tasks.{Edge, edge}
 use Rattle.layout.specs.declared.EdgeRecord.{EdgeRecord}
 use Rattle.files.specs.Files.{graphOf}
-use Rattle.stages.specs.Stages.{writtenInto}
 use Rattle.acceptance.specs.declared.Outcome.{Outcome}
 use Rattle.acceptance.specs.Outcomes.{outcome}
 use Rattle.least_delays.specs.LeastDelays.{delaysRefusal, delaysAfter}
 use Rattle.redundant.specs.Redundant.{redundantOf}
 use Rattle.timetable.specs.Timetable.{timetableRefusal, timetableAfter}
-use Rattle.verdict.specs.Verdict.{VerdictAnswer}
 use Rattle.verdict.specs.declared.ProposalVerdict.{ProposalVerdict}
+use Rattle.verdict.specs.Verdict.{VerdictAnswer}
+use Rattle.stages.specs.Stages.{writtenInto}
 use Rattle.plan.specs.Plan.{planAnswerOf, planAfter}
 
 -- ── Cases ──

@@ -11,25 +11,25 @@ use mathlib.Core.List.{List, [], _∷_, _++_}
 use Prim.Native.Nat.{ℕ, zero, suc, _*_, _≤_, _<_}
 use lib.IntN.{pos, negsuc, _-ℤ_}
 use lib.ListN.{length}
-use Rattle.bits.specs.Bits.{bitAt}
-use Rattle.layout.specs.declared.EdgeRecord.{EdgeRecord}
-use Rattle.layout.specs.Layout.{graphHeader, proposalHeader, bytesFor}
 use Rattle.model.specs.Tasks.{Task, Edge, _∈_, processorOf}
 use Rattle.model.specs.Graph.{Graph, edges, timeOf}
 use Rattle.model.specs.Paths.{Path, ZeroCycle, OnCycle, SomeLost, Latency}
 use Rattle.model.specs.Proposals.{result}
+use Rattle.bits.specs.Bits.{bitAt}
+use Rattle.layout.specs.declared.EdgeRecord.{EdgeRecord}
+use Rattle.layout.specs.Layout.{graphHeader, proposalHeader, bytesFor}
 use Rattle.files.specs.Files.{taskCount, edgeCount, graphBits, proposalBits, graphOf, proposalOf, edgeIn}
 use Rattle.readings.specs.Working.{graphReading, proposalReading}
-use Rattle.judgement.specs.Judgement.{OpenPlace}
-use Rattle.judgement.specs.Theorems.{FirstLost}
 use Rattle.acceptance.specs.declared.Outcome.{Outcome}
 use Rattle.acceptance.specs.Outcomes.{outcome}
 use Rattle.figures.specs.Figures.{figuresOf}
 use Rattle.least_delays.specs.LeastDelays.{delaysRefusal, delaysAfter}
 use Rattle.redundant.specs.Redundant.{redundantOf, noMarks}
 use Rattle.timetable.specs.Timetable.{timetableRefusal, timetableAfter}
-use Rattle.verdict.specs.Verdict.{VerdictAnswer}
+use Rattle.judgement.specs.Judgement.{OpenPlace}
+use Rattle.judgement.specs.Theorems.{FirstLost}
 use Rattle.verdict.specs.declared.ProposalVerdict.{ProposalVerdict}
+use Rattle.verdict.specs.Verdict.{VerdictAnswer}
 use Rattle.plan.specs.Plan.{planAnswerOf, planAfter}
 
 -- ── Checks, and sequences of them ──

@@ -20,7 +20,6 @@ use Rattle.model.specs.Proposals.{result}
 use Rattle.model.specs.Plan.{Plan}
 use Rattle.layout.specs.declared.EdgeRecord.{EdgeRecord}
 use Rattle.files.specs.Files.{graphOf, proposalOf}
-use Rattle.stages.specs.Stages.{listed}
 use Rattle.marks.specs.declared.Marks.{Marks}
 use Rattle.marks.specs.Marks.{markAt, placesOf}
 use Rattle.acceptance.specs.Outcomes.{outcome, tasksOf}
@@ -29,8 +28,9 @@ use Rattle.figures.specs.Figures.{figuresOf}
 use Rattle.least_delays.specs.LeastDelays.{delaysRefusal, delaysAfter}
 use Rattle.redundant.specs.Redundant.{redundantOf}
 use Rattle.timetable.specs.Timetable.{timetableRefusal, timetableAfter}
-use Rattle.verdict.specs.Verdict.{VerdictAnswer}
 use Rattle.verdict.specs.declared.ProposalVerdict.{ProposalVerdict}
+use Rattle.verdict.specs.Verdict.{VerdictAnswer}
+use Rattle.stages.specs.Stages.{listed}
 use Rattle.plan.specs.Plan.{planAnswerOf, planAfter}
 
 -- "row by row": the number of tasks a and b in a delay table of n tasks

@@ -20,11 +20,11 @@ use Rattle.model.specs.Plan.{Stage}
 use Rattle.layout.specs.declared.EdgeRecord.{EdgeRecord}
 use Rattle.files.specs.Files.{taskCount, graphOf, proposalOf, proposalRefusal}
 use Rattle.files.specs.Refusals.{notRefused}
-use Rattle.judgement.specs.Judgement.{judgement}
 use Rattle.acceptance.specs.Outcomes.{tasksOf}
 use Rattle.acceptance.specs.Theorems.{AcceptedFile}
-use Rattle.verdict.specs.Verdict.{VerdictAnswer}
+use Rattle.judgement.specs.Judgement.{judgement}
 use Rattle.verdict.specs.declared.ProposalVerdict.{ProposalVerdict}
+use Rattle.verdict.specs.Verdict.{VerdictAnswer}
 use Rattle.plan.specs.Plan.{planAnswerOf}
 use Rattle.claims.specs.Demand1.{Says, graphChecks, proposalFileChecks}
 use Rattle.claims.specs.Demand2.{planListed}

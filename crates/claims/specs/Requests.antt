@@ -7,8 +7,8 @@ use Prim.Native.Nat.{ℕ, suc, _+_, _*_, _≤_, _<_}
 use lib.ListN.{length, getD}
 use Rattle.model.specs.Graph.{edges}
 use Rattle.model.specs.Paths.{Least}
-use Rattle.delays.specs.Delays.{withRow, rowsFrom}
 use Rattle.files.specs.Files.{graphOf}
+use Rattle.delays.specs.Delays.{withRow, rowsFrom}
 use Rattle.acceptance.specs.Outcomes.{outcome, tasksOf}
 use Rattle.least_delays.specs.LeastDelays.{delaysRefusal, delaysAfter}
 use Rattle.claims.specs.Demand2.{delayIn}

@@ -5,12 +5,12 @@ use mathlib.Core.Logic.{_≢_}
 use mathlib.Core.List.{List}
 use Prim.Native.Nat.{ℕ}
 use lib.ListN.{length}
+use Rattle.model.specs.Graph.{count, edges}
 use Rattle.model.specs.Compute.{latencyOf}
 use Rattle.files.specs.Files.{graphOf}
-use Rattle.acceptance.specs.Acceptance.{acceptance}
-use Rattle.model.specs.Graph.{count, edges}
 use Rattle.acceptance.specs.declared.Acceptance.{Acceptance}
 use Rattle.acceptance.specs.declared.Outcome.{Outcome}
+use Rattle.acceptance.specs.Acceptance.{acceptance}
 use Rattle.acceptance.specs.Outcomes.{outcome, tasksOf}
 use Rattle.acceptance.proofs.AcceptedFiles.{latency-given, read-fronts, same-outcome, nothing, whole}
 use Rattle.figures.specs.declared.GraphFigures.{GraphFigures}

@@ -7,8 +7,8 @@ use Rattle.model.specs.Graph.{count, edges, timeOf}
 use Rattle.model.specs.Compute.{latencyOf}
 use Rattle.files.specs.Refusals.{ifPassed}
 use Rattle.files.proofs.Example.{deskBytes, desk-file}
-use Rattle.acceptance.proofs.Example.{desk-given}
 use Rattle.acceptance.specs.Outcomes.{outcome, tasksOf}
+use Rattle.acceptance.proofs.Example.{desk-given}
 use Rattle.figures.specs.Figures.{figuresOf}
 
 -- "graph 4 3 9"

@@ -2,17 +2,17 @@
 use mathlib.Core.Path.{refl, sym, subst}
 use Prim.Native.Nat.{ℕ}
 use lib.ListN.{length}
+use Rattle.model.specs.Graph.{count, edges, timeOf}
+use Rattle.model.specs.Paths.{Latency}
+use Rattle.model.specs.Runs.{estimates, ends}
 use Rattle.model.specs.Compute.{latencyOf}
+use Rattle.model.proofs.Theorems.{latency-is, latency-unique, first-output-exact}
 use Rattle.files.specs.Files.{graphOf}
 use Rattle.files.proofs.First.{if-refused, if-passed}
 use Rattle.acceptance.specs.Acceptance.{acceptanceRefusal}
-use Rattle.acceptance.proofs.Judged.{accepted-iff-passed}
-use Rattle.model.specs.Graph.{count, edges, timeOf}
-use Rattle.model.proofs.Theorems.{latency-is, latency-unique, first-output-exact}
-use Rattle.model.specs.Runs.{estimates, ends}
-use Rattle.model.specs.Paths.{Latency}
 use Rattle.acceptance.specs.Outcomes.{outcome, tasksOf}
 use Rattle.acceptance.proofs.AcceptedFiles.{accepted, between-tasks}
+use Rattle.acceptance.proofs.Judged.{accepted-iff-passed}
 use Rattle.figures.specs.Figures.{figuresOf}
 use Rattle.figures.specs.Theorems.{FiguresGiven, FiguresRefused, FiguresMean, FiguresRun}
 

@@ -5,8 +5,8 @@ use Prim.Native.Nat.{ℕ}
 use lib.ListN.{length}
 use Rattle.model.specs.Graph.{edges}
 use Rattle.model.specs.Compute.{latencyOf}
-use Rattle.files.specs.Refusals.{ifPassed}
 use Rattle.files.specs.Files.{graphOf}
+use Rattle.files.specs.Refusals.{ifPassed}
 use Rattle.acceptance.specs.Acceptance.{acceptanceRefusal}
 use Rattle.acceptance.specs.Outcomes.{outcome, tasksOf}
 use Rattle.figures.specs.declared.GraphFigures.{GraphFigures}

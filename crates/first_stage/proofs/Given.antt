@@ -15,8 +15,8 @@ use Rattle.records.proofs.Edges.{edges-length, edge-at, edges-of-columns}
 use Rattle.marks.specs.declared.Marks.{Marks}
 use Rattle.marks.specs.Marks.{marksOf, markAt}
 use Rattle.marks.proofs.Laws.{mark-of}
-use Rattle.redundancy.specs.Redundancy.{redundantIn}
 use Rattle.results.proofs.Keeping.{places-agree}
+use Rattle.redundancy.specs.Redundancy.{redundantIn}
 use Rattle.first_stage.specs.FirstStage.{isNeeded, needed, firstStageIn}
 
 -- the part of a list from place n up to an end, as it is lent

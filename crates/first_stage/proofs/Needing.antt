@@ -9,10 +9,10 @@ use Rattle.model.specs.Lists.{keepPlaces, tabulate}
 use Rattle.model.specs.Tasks.{Edge}
 use Rattle.model.specs.Compute.{present, leastDelay, onCycle}
 use Rattle.records.specs.Columns.{heldEdge, edgesOf}
-use Rattle.records.proofs.Fill.{length-tabulate}
 use Rattle.records.proofs.Edges.{edge-at}
-use Rattle.results.proofs.Keeping.{places-more, places-same}
+use Rattle.records.proofs.Fill.{length-tabulate}
 use Rattle.results.proofs.Fronts.{tabulate-more}
+use Rattle.results.proofs.Keeping.{places-more, places-same}
 use Rattle.first_stage.specs.FirstStage.{isNeeded, needed}
 
 -- the needed ones of the first j edges

@@ -7,44 +7,43 @@ use mathlib.Core.List.{List, [], _∷_, _++_}
 use Prim.Native.Nat.{ℕ, zero, suc, _+_, _-_, _≤_, _<_}
 use native.Mathlib.Nat.{sub-zero}
 use native.Mathlib.Omega.{arith}
-use lib.ListN.{length, getD, take}
 use lib.Dec.{ltb}
+use lib.ListN.{length, getD, take}
 use lib.Seq.{getD-take}
 use borrow.Author.Tests.{lt-ltb, le-ltb}
-use Rattle.model.proofs.Basics.{order}
-use Rattle.acceptance.specs.Acceptance.{AcceptedReading}
 use Rattle.model.specs.Lists.{counted, tabulate}
 use Rattle.model.specs.Tasks.{Edge, _∈_, Ends, noEdge, processorOf}
 use Rattle.model.specs.Processors.{processorEdges}
 use Rattle.model.specs.Graph.{Graph, WellFormed, count, edges, timeOf}
 use Rattle.model.specs.Paths.{AllHeld, syncAt}
-use Rattle.model.proofs.Basics.{place-member}
-use Rattle.model.proofs.Walks.{path-re-base}
-use Rattle.model.proofs.Processors.{processor-around}
-use Rattle.model.proofs.Graphs.{processor-edge-in}
-use Rattle.model.proofs.Results.{result-processor}
 use Rattle.model.specs.Compute.{leastDelay, present, onCycle, orderHolds, latency, latencyOf, zeroCycle}
 use Rattle.model.specs.Proposals.{result}
-use Rattle.files.specs.declared.Refusal.{Refusal}
-use Rattle.files.specs.Refusals.{refuse, notRefused, first}
-use Rattle.files.specs.Files.{edgeIn, firstOf}
-use Rattle.files.proofs.First.{number-same}
+use Rattle.model.proofs.Processors.{processor-around}
+use Rattle.model.proofs.Basics.{order, place-member}
+use Rattle.model.proofs.Walks.{path-re-base}
+use Rattle.model.proofs.Graphs.{processor-edge-in}
+use Rattle.model.proofs.Results.{result-processor}
 use Rattle.records.specs.Columns.{SourcesOf, SinksOf, DelaysOf, edgesOf, heldEdge, at}
-use Rattle.records.proofs.Fill.{length-tabulate, getD-tabulate}
 use Rattle.records.proofs.Edges.{edge-at, edge-in, edges-of-columns}
+use Rattle.records.proofs.Fill.{length-tabulate, getD-tabulate}
 use Rattle.records.proofs.Ordered.{sync-place}
+use Rattle.files.specs.declared.Refusal.{Refusal}
+use Rattle.files.specs.Files.{edgeIn, firstOf}
+use Rattle.files.specs.Refusals.{refuse, notRefused, first}
+use Rattle.files.proofs.First.{number-same}
 use Rattle.readings.specs.declared.GraphReading.{GraphReading}
 use Rattle.readings.specs.declared.ProposalReading.{ProposalReading}
-use Rattle.readings.specs.Working.{workingGraph, workingProposal, graphIn, proposedIn}
 use Rattle.readings.specs.Theorems.{HeldEdges}
+use Rattle.readings.specs.Working.{workingGraph, workingProposal, graphIn, proposedIn}
 use Rattle.readings.proofs.Held.{working-edges-hold}
-use Rattle.delays.specs.Delays.{Fit}
-use Rattle.acceptance.proofs.Readings.{front-length, graph-fronts, few-tasks, as-many-edges, original-fit}
-use Rattle.acceptance.proofs.Fronts.{front, frontEdges}
 use Rattle.reach.specs.Reach.{Circled, ReachesOn}
+use Rattle.delays.specs.Delays.{Fit}
 use Rattle.results.specs.declared.ResultEdges.{ResultEdges}
 use Rattle.results.specs.Results.{resultIn, resultOf, HeldResult}
 use Rattle.results.proofs.Results.{result-edges-are}
+use Rattle.acceptance.specs.Acceptance.{AcceptedReading}
+use Rattle.acceptance.proofs.Fronts.{front, frontEdges, lent}
+use Rattle.acceptance.proofs.Readings.{front-length, graph-fronts, few-tasks, as-many-edges, original-fit}
 use Rattle.judgement.specs.declared.Judgement.{Judgement}
 use Rattle.judgement.specs.Judgement.{someOnCycle, lostRefusal, judgedRefusal, tellsLatency, judgement, OpenPlace}
 use Rattle.judgement.specs.Searches.{FoundCyclic, nowhere, somewhere, lostFrom, Judgeable, Made, lostIn, lateIn}
@@ -71,10 +70,6 @@ pub record ProposedFronts (proposed : List Edge) (p : ProposalReading) : Type 0 
   pub as-many : length (front (p .edges) (p .source)) ≡ length proposed
   pub as-many-sinks : length (front (p .edges) (p .sink)) ≡ length (front (p .edges) (p .source))
   pub as-many-delays : length (front (p .edges) (p .delay)) ≡ length (front (p .edges) (p .source))
-
--- a fact about the front `take n` holds of the front as lent
-lent : (P : List ℕ → Type 0) (n : ℕ) (xs : List ℕ) → P (take n xs) → P (front n xs)
-lent P n xs h = subst (λ (k : ℕ). P (take k xs)) (sym (sub-zero n)) h
 
 -- the fronts of proposed edges in their working form hold them
 working-proposed : (proposed : List Edge) → length proposed ≤ 256 → ProposedFronts proposed (workingProposal proposed)

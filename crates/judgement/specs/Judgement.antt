@@ -12,8 +12,8 @@ use Rattle.model.specs.Paths.{OnCycle, syncAt}
 use Rattle.model.specs.Compute.{onCycle, orderHolds, latencyOf}
 use Rattle.model.specs.Proposals.{result}
 use Rattle.files.specs.declared.Refusal.{Refusal}
-use Rattle.files.specs.Refusals.{refuse, first}
 use Rattle.files.specs.Files.{edgeIn, firstOf}
+use Rattle.files.specs.Refusals.{refuse, first}
 use Rattle.judgement.specs.declared.Judgement.{Judgement}
 
 -- "13: a proposed edge on a cycle": of the result

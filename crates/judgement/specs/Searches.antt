@@ -10,10 +10,10 @@ use Rattle.model.specs.Graph.{Graph, WellFormedEdges, count, edges, timeOf}
 use Rattle.model.specs.Paths.{syncAt}
 use Rattle.model.specs.Compute.{present, leastDelay, orderHolds, latency}
 use Rattle.model.specs.Proposals.{result}
-use Rattle.files.specs.declared.Refusal.{Refusal}
-use Rattle.files.specs.Refusals.{refuse}
-use Rattle.files.specs.Files.{firstOf}
 use Rattle.records.specs.Columns.{at, heldEdge}
+use Rattle.files.specs.declared.Refusal.{Refusal}
+use Rattle.files.specs.Files.{firstOf}
+use Rattle.files.specs.Refusals.{refuse}
 use Rattle.readings.specs.declared.GraphReading.{GraphReading}
 use Rattle.readings.specs.declared.ProposalReading.{ProposalReading}
 use Rattle.readings.specs.Working.{workingProposal, graphIn, proposedIn}

@@ -1,18 +1,18 @@
 // Refusals 13 to 15: the judgement of proposed edges beside an accepted graph. No file is asked for: the edges may come from anywhere.
 ghost use mathlib.Core.Path.{_≡_};
+ghost use mathlib.Core.Bool.{false};
 ghost use mathlib.Core.List.{List};
 ghost use Prim.Native.Nat.{ℕ, _≤_, _<_};
 ghost use lib.ListN.{length};
 ghost use Rattle.model.specs.Tasks.{Edge};
 ghost use Rattle.model.specs.Graph.{count, edges};
-ghost use Rattle.records.specs.Columns.{edgesOf, at};
-ghost use Rattle.delays.specs.Delays.{Fit};
-ghost use Rattle.reach.specs.Reach.{ReachesOn};
-ghost use mathlib.Core.Bool.{false};
 ghost use Rattle.model.specs.Compute.{zeroCycle};
 ghost use Rattle.model.specs.Proposals.{result};
+ghost use Rattle.records.specs.Columns.{edgesOf, at};
 ghost use Rattle.files.specs.Refusals.{refuse};
 ghost use Rattle.readings.specs.Working.{graphIn, proposedIn};
+ghost use Rattle.reach.specs.Reach.{ReachesOn};
+ghost use Rattle.delays.specs.Delays.{Fit};
 ghost use Rattle.results.specs.Results.{resultIn, HeldResult};
 ghost use Rattle.acceptance.specs.Acceptance.{AcceptedReading};
 ghost use Rattle.judgement.specs.Judgement.{someOnCycle, judgement, OpenPlace};

@@ -7,13 +7,13 @@ use lib.ListN.{length, drop}
 use Rattle.files.specs.declared.Refusal.{Refusal}
 use Rattle.files.specs.Refusals.{first}
 use Rattle.files.proofs.First.{number-same, if-refused, if-passed}
-use Rattle.acceptance.specs.Acceptance.{acceptance}
 use Rattle.delays.specs.Delays.{delayTable}
 use Rattle.acceptance.specs.declared.Acceptance.{Acceptance}
-use Rattle.acceptance.proofs.Fronts.{frontEdges}
 use Rattle.acceptance.specs.declared.Outcome.{Outcome}
+use Rattle.acceptance.specs.Acceptance.{acceptance}
 use Rattle.acceptance.specs.Outcomes.{outcome, roomRefusal, tasksOf}
 use Rattle.acceptance.proofs.AcceptedFiles.{refusal-given, read-fronts}
+use Rattle.acceptance.proofs.Fronts.{frontEdges}
 use Rattle.acceptance.proofs.Rooms.{room-there, same-room}
 use Rattle.least_delays.specs.LeastDelays.{tableOf, delaysRefusal, delaysAfter}
 

@@ -5,19 +5,19 @@ use mathlib.Core.List.{List, [], _∷_}
 use Prim.Native.Nat.{ℕ, _*_, _≤_, _<_, _+_}
 use native.Mathlib.Omega.{arith}
 use lib.ListN.{length, getD}
+use Rattle.model.specs.Graph.{count, edges}
+use Rattle.model.specs.Runs.{ends}
 use Rattle.model.specs.Compute.{leastDelay}
+use Rattle.model.proofs.Theorems.{least-delay-is, least-bound}
+use Rattle.records.proofs.Rows.{place-within}
 use Rattle.files.specs.Files.{graphOf}
 use Rattle.files.proofs.First.{stops, none-refused}
-use Rattle.acceptance.specs.Acceptance.{acceptanceRefusal}
-use Rattle.model.specs.Graph.{count, edges}
-use Rattle.model.proofs.Theorems.{least-delay-is, least-bound}
 use Rattle.delays.specs.Delays.{entry}
-use Rattle.acceptance.proofs.Fronts.{graph-fit}
-use Rattle.model.specs.Runs.{ends}
-use Rattle.records.proofs.Rows.{place-within}
 use Rattle.delays.proofs.Table.{table-length, table-at}
+use Rattle.acceptance.specs.Acceptance.{acceptanceRefusal}
 use Rattle.acceptance.specs.Outcomes.{roomRefusal, tasksOf}
 use Rattle.acceptance.proofs.AcceptedFiles.{accepted, between-tasks}
+use Rattle.acceptance.proofs.Fronts.{graph-fit}
 use Rattle.acceptance.proofs.Rooms.{accepted-given, accepted-short}
 use Rattle.acceptance.proofs.Written.{written-at}
 use Rattle.least_delays.specs.LeastDelays.{tableOf, delaysRefusal, delaysAfter}

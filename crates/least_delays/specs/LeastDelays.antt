@@ -5,8 +5,8 @@ use Prim.Native.Nat.{ℕ, _*_}
 use lib.ListN.{length, drop}
 use Rattle.model.specs.Graph.{edges}
 use Rattle.files.specs.declared.Refusal.{Refusal}
-use Rattle.files.specs.Refusals.{first, ifPassed}
 use Rattle.files.specs.Files.{graphOf}
+use Rattle.files.specs.Refusals.{first, ifPassed}
 use Rattle.delays.specs.Delays.{delayTable}
 use Rattle.acceptance.specs.Acceptance.{acceptanceRefusal}
 use Rattle.acceptance.specs.Outcomes.{roomRefusal, tasksOf}

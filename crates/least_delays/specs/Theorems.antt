@@ -7,8 +7,8 @@ use Prim.Native.Nat.{ℕ, _+_, _*_, _≤_, _<_}
 use lib.ListN.{length, getD}
 use Rattle.model.specs.Graph.{edges}
 use Rattle.model.specs.Paths.{Least}
-use Rattle.files.specs.Refusals.{notRefused}
 use Rattle.files.specs.Files.{graphOf}
+use Rattle.files.specs.Refusals.{notRefused}
 use Rattle.delays.specs.Delays.{entry}
 use Rattle.acceptance.specs.Acceptance.{acceptanceRefusal}
 use Rattle.acceptance.specs.Outcomes.{tasksOf}

@@ -10,7 +10,7 @@ use native.Mathlib.Omega.{arith}
 use lib.Dec.{T}
 use Rattle.model.specs.Tasks.{Edge, _∈_, Ends}
 use Rattle.model.specs.Graph.{Graph, count, edges, WellFormedEdges}
-use Rattle.model.specs.Paths.{total, Walk, stop, step, Path, OrderHeld, AllHeld, ZeroCycle, NoZeroCycle, ZeroWalk, timesAlong, Latency}
+use Rattle.model.specs.Paths.{total, Walk, stop, step, Path, OrderHeld, AllHeld, NoZeroCycle, ZeroWalk, timesAlong, Latency}
 use Rattle.model.specs.Compute.{zeroCycle, latency}
 use Rattle.model.specs.Proposals.{AcceptedGraph, AcceptedProposal}
 use Rattle.model.specs.Theorems.{OffCycles}

@@ -14,24 +14,24 @@ use Rattle.model.specs.Plan.{planOf, planLatency}
 use Rattle.layout.specs.declared.EdgeRecord.{EdgeRecord}
 use Rattle.records.specs.Columns.{edgesOf}
 use Rattle.files.specs.declared.Refusal.{Refusal}
-use Rattle.files.specs.Refusals.{first, ifPassed}
 use Rattle.files.specs.Files.{graphOf}
+use Rattle.files.specs.Refusals.{first, ifPassed}
 use Rattle.files.proofs.First.{number-same, zero-or-not, if-passed, if-refused}
 use Rattle.readings.specs.Working.{graphIn}
 use Rattle.acceptance.specs.declared.Acceptance.{Acceptance}
+use Rattle.acceptance.specs.declared.Outcome.{Outcome}
 use Rattle.acceptance.specs.Acceptance.{acceptanceRefusal, acceptance, AcceptedReading}
+use Rattle.acceptance.specs.Outcomes.{outcome, roomRefusal}
+use Rattle.acceptance.proofs.AcceptedFiles.{refusal-given, read-fronts, graph-held, accepted-reading}
 use Rattle.acceptance.proofs.Judged.{accepted-iff-passed}
+use Rattle.acceptance.proofs.Rooms.{room-there, same-room}
 use Rattle.stages.specs.declared.StageEdges.{StageEdges}
 use Rattle.stages.specs.Stages.{recordsOf, writtenInto, HeldStage}
 use Rattle.stages.proofs.Staged.{held-stage, front-few}
-use Rattle.acceptance.specs.declared.Outcome.{Outcome}
-use Rattle.plan.specs.declared.PlanAnswer.{PlanAnswer}
-use Rattle.acceptance.specs.Outcomes.{outcome, roomRefusal}
 use Rattle.plan.specs.declared.GraphPlan.{GraphPlan}
+use Rattle.plan.specs.declared.PlanAnswer.{PlanAnswer}
 use Rattle.plan.specs.Plan.{planRefusal, planAnswerOf, planAfter, plannedEdges, PlanFound}
 use Rattle.plan.proofs.Meanings.{plan-few}
-use Rattle.acceptance.proofs.Rooms.{room-there, same-room}
-use Rattle.acceptance.proofs.AcceptedFiles.{refusal-given, read-fronts, graph-held, accepted-reading}
 
 -- ── What is decided ──
 

@@ -6,27 +6,25 @@ use Prim.Native.Nat.{ℕ, _-_, _≤_, _<_}
 use native.Mathlib.Omega.{arith}
 use lib.ListN.{length, getD, take, length-take, replicate, length-replicate, getD-replicate, List·getD-eq-default}
 use lib.Seq.{take-at}
+use Rattle.model.specs.Tasks.{Edge}
 use Rattle.model.specs.Graph.{Graph, count, edges}
 use Rattle.model.specs.Plan.{firstStage}
 use Rattle.model.proofs.Basics.{order}
 use Rattle.records.specs.Columns.{at}
 use Rattle.readings.specs.declared.GraphReading.{GraphReading}
 use Rattle.readings.specs.Working.{graphIn}
+use Rattle.delays.specs.Delays.{delayTable}
+use Rattle.results.specs.Fronts.{HeldFront}
 use Rattle.acceptance.specs.Acceptance.{AcceptedReading}
 use Rattle.acceptance.proofs.Fronts.{front, frontEdges}
 use Rattle.acceptance.proofs.Readings.{graph-fronts, few-tasks}
-use Rattle.present.proofs.Reading.{ordered-lent}
-use Rattle.results.specs.Fronts.{HeldFront}
-use Rattle.prepared.specs.Ready.{Ready}
-use Rattle.redundancy.specs.Redundancy.{Apart}
-use Rattle.redundancy.proofs.Graphs.{graph-apart}
 use Rattle.first_stage.specs.FirstStage.{firstStageIn}
 use Rattle.first_stage.proofs.Graphs.{first-stage-in}
-use Rattle.model.specs.Tasks.{Edge}
-use Rattle.delays.specs.Delays.{delayTable}
+use Rattle.prepared.specs.Ready.{Ready}
 use Rattle.present.specs.declared.Precedence.{Precedence}
 use Rattle.present.specs.Present.{Ordered, Timed}
 use Rattle.present.proofs.Ordering.{first-staged, timed-sizes}
+use Rattle.present.proofs.Reading.{ordered-lent}
 use Rattle.steps.specs.Steps.{Begun}
 
 -- lists of 0
@@ -41,11 +39,6 @@ blank-at n i = go (order n i)
 -- ── The first stage, and the table ──
 
 module _ {graph : GraphReading} (given : AcceptedReading graph) where
-  pub lists-apart : Apart (graph .tasks) (frontEdges graph)
-  lists-apart =
-      let f = graph-fronts given in
-      graph-apart (graphIn graph) (given .accepted .formed) (given .accepted .no-zero-cycle) (f .tasks-are) (f .held)
-
   pub first-held :
       {count : ℕ} {source sink delay : List ℕ} → HeldFront 256 count source sink delay (firstStageIn (graph .tasks) (frontEdges graph)) →
       HeldFront 256 count source sink delay (firstStage (graphIn graph))

@@ -13,17 +13,17 @@ use Rattle.model.specs.Compute.{isFeedback}
 use Rattle.model.specs.Proposals.{AcceptedGraph}
 use Rattle.model.specs.Plan.{presentEdges, Plan, planOf, planLatency}
 use Rattle.model.proofs.Plans.{length-keep, stage-shrinks, plan-is, plan-latency-is}
-use Rattle.files.specs.Refusals.{notRefused, ifPassed}
-use Rattle.files.specs.Files.{graphOf}
-use Rattle.files.proofs.First.{none-refused, zero-or-not, if-passed, if-refused}
 use Rattle.layout.specs.declared.EdgeRecord.{EdgeRecord}
 use Rattle.records.specs.Columns.{edgeOf}
+use Rattle.files.specs.Files.{graphOf}
+use Rattle.files.specs.Refusals.{notRefused, ifPassed}
+use Rattle.files.proofs.First.{none-refused, zero-or-not, if-passed, if-refused}
+use Rattle.acceptance.proofs.Rooms.{accepted-given, accepted-short}
+use Rattle.acceptance.proofs.Written.{kept-past}
 use Rattle.stages.specs.Stages.{recordOf, recordsOf, writtenInto, listed}
 use Rattle.stages.proofs.Listed.{records-length}
 use Rattle.plan.specs.Plan.{planRefusal, planAnswerOf, planAfter}
 use Rattle.plan.specs.Theorems.{PlanGiven, PlanShort, PlanRefused, PlanKept, PlanPast, PlanMeans}
-use Rattle.acceptance.proofs.Rooms.{accepted-given, accepted-short}
-use Rattle.acceptance.proofs.Written.{kept-past}
 
 -- ── When it is given ──
 

@@ -8,16 +8,16 @@ use lib.ListN.{length}
 use Rattle.model.specs.Tasks.{Edge}
 use Rattle.model.specs.Graph.{Graph}
 use Rattle.model.specs.Plan.{planOf, planLatency}
-use Rattle.files.specs.declared.Refusal.{Refusal}
-use Rattle.files.specs.Refusals.{first, ifPassed}
-use Rattle.files.specs.Files.{graphOf}
 use Rattle.layout.specs.declared.EdgeRecord.{EdgeRecord}
-use Rattle.acceptance.specs.Acceptance.{acceptanceRefusal}
-use Rattle.stages.specs.Stages.{writtenInto}
+use Rattle.files.specs.declared.Refusal.{Refusal}
+use Rattle.files.specs.Files.{graphOf}
+use Rattle.files.specs.Refusals.{first, ifPassed}
 use Rattle.results.specs.Fronts.{HeldFront}
+use Rattle.acceptance.specs.Acceptance.{acceptanceRefusal}
+use Rattle.acceptance.specs.Outcomes.{outcome, roomRefusal}
+use Rattle.stages.specs.Stages.{writtenInto}
 use Rattle.plan.specs.declared.GraphPlan.{GraphPlan}
 use Rattle.plan.specs.declared.PlanAnswer.{PlanAnswer}
-use Rattle.acceptance.specs.Outcomes.{outcome, roomRefusal}
 
 -- "9 to 12; 16": refusals of the plan for a list with so many records; "a lent list too short ([..] or edges)": all edges of the file
 unfoldable pub planRefusal : List ℕ → ℕ → Refusal

@@ -9,8 +9,8 @@ use Rattle.model.specs.Paths.{Latency}
 use Rattle.model.specs.Plan.{presentEdges, Plan}
 use Rattle.layout.specs.declared.EdgeRecord.{EdgeRecord}
 use Rattle.files.specs.Files.{graphOf}
-use Rattle.stages.specs.Stages.{listed}
 use Rattle.acceptance.specs.Theorems.{AcceptedFile}
+use Rattle.stages.specs.Stages.{listed}
 use Rattle.plan.specs.Plan.{planRefusal, planAnswerOf, planAfter}
 
 -- It is given exactly if the file is accepted and the list has at least as many records as the file has edges; 16 comes exactly if the file is accepted

@@ -19,11 +19,11 @@ use Rattle.records.proofs.Fill.{length-tabulate}
 use Rattle.records.proofs.Rows.{rows-length, place-within, product-small}
 use Rattle.delays.specs.Delays.{entry, delayTable}
 use Rattle.delays.proofs.Table.{table-length, table-front, table-room}
-use Rattle.subsumption.specs.Subsumption.{CountsOf}
-use Rattle.updates.specs.Updates.{Small}
-use Rattle.candidates.specs.Candidates.{countTable}
 use Rattle.results.specs.Fronts.{HeldFront}
 use Rattle.results.proofs.Fronts.{held-edges}
+use Rattle.updates.specs.Updates.{Small}
+use Rattle.candidates.specs.Candidates.{countTable}
+use Rattle.subsumption.specs.Subsumption.{CountsOf}
 use Rattle.stages.proofs.Staged.{front-few}
 
 -- numbers of 0 are small

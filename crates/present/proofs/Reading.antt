@@ -4,8 +4,8 @@ use mathlib.Core.List.{List}
 use Prim.Native.Nat.{ℕ}
 use native.Mathlib.Nat.{sub-zero}
 use lib.ListN.{take}
-use Rattle.model.specs.Graph.{Graph}
 use Rattle.model.specs.Tasks.{Edge}
+use Rattle.model.specs.Graph.{Graph}
 use Rattle.readings.specs.declared.GraphReading.{GraphReading}
 use Rattle.readings.specs.Working.{graphIn}
 use Rattle.acceptance.specs.Acceptance.{AcceptedReading}

@@ -10,16 +10,16 @@ use lib.Seq.{ext-getD}
 use Rattle.model.specs.Lists.{tabulate}
 use Rattle.model.specs.Tasks.{noTask, noEdge, processorOf}
 use Rattle.model.specs.Graph.{count, edges, timeOf}
-use Rattle.records.proofs.Parts.{column-of-take}
 use Rattle.records.specs.Columns.{at, heldEdge}
 use Rattle.records.proofs.Fill.{length-tabulate, getD-tabulate}
 use Rattle.records.proofs.Ordered.{edges-count, sync-place}
+use Rattle.records.proofs.Parts.{column-of-take}
+use Rattle.files.specs.Files.{graphOf, proposalOf, edgeIn, graphRefusal, proposalRefusal}
+use Rattle.files.proofs.First.{zero-or-not, none-refused, if-passed, if-refused}
 use Rattle.readings.specs.declared.GraphReading.{GraphReading}
 use Rattle.readings.specs.declared.ProposalReading.{ProposalReading}
-use Rattle.files.specs.Files.{graphOf, proposalOf, edgeIn, graphRefusal, proposalRefusal}
-use Rattle.readings.specs.Working.{workingGraph, refusedGraph, graphAnswer, graphReading, workingProposal, refusedProposal, proposalAnswer, proposalReading, graphIn, proposedIn}
 use Rattle.readings.specs.Theorems.{GraphRefusalGiven, GraphGiven, ProposalRefusalGiven, ProposalGiven, WorkingHolds, WorkingEdgesHold, GraphInWorking, ProposedInWorking}
-use Rattle.files.proofs.First.{zero-or-not, none-refused, if-passed, if-refused}
+use Rattle.readings.specs.Working.{workingGraph, refusedGraph, graphAnswer, graphReading, workingProposal, refusedProposal, proposalAnswer, proposalReading, graphIn, proposedIn}
 
 pub working-holds : WorkingHolds
 unfolding workingGraph processorOf timeOf edgeIn

@@ -9,10 +9,10 @@ use Rattle.model.specs.Tasks.{Edge, processorOf}
 use Rattle.model.specs.Graph.{Graph, timeOf, edges}
 use Rattle.records.specs.Columns.{zeros, at, heldEdge}
 use Rattle.files.specs.declared.Refusal.{Refusal}
+use Rattle.files.specs.Files.{edgeIn, graphOf, graphRefusal, proposalOf, proposalRefusal}
+use Rattle.files.specs.Refusals.{notRefused, ifPassed}
 use Rattle.readings.specs.declared.GraphReading.{GraphReading}
 use Rattle.readings.specs.declared.ProposalReading.{ProposalReading}
-use Rattle.files.specs.Refusals.{notRefused, ifPassed}
-use Rattle.files.specs.Files.{edgeIn, graphOf, graphRefusal, proposalOf, proposalRefusal}
 
 -- a graph in its working form
 unfoldable pub workingGraph : Graph → GraphReading

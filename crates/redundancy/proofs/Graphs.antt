@@ -15,10 +15,10 @@ use Rattle.model.specs.Processors.{processorEdges}
 use Rattle.model.specs.Graph.{Graph, WellFormed, count, edges}
 use Rattle.model.specs.Paths.{edgesWithout, syncAt, NoZeroCycle}
 use Rattle.model.specs.Compute.{orderHolds, isRedundant}
+use Rattle.model.proofs.Processors.{processor-same}
 use Rattle.model.proofs.Basics.{order, place-member}
 use Rattle.model.proofs.Tests.{decides-yes, decides-no, ltb-decides}
 use Rattle.model.proofs.Graphs.{without-cases}
-use Rattle.model.proofs.Processors.{processor-same}
 use Rattle.records.proofs.Ordered.{processor-edges-count, edges-count, sync-place}
 use Rattle.redundancy.specs.Redundancy.{redundantIn, Apart}
 

@@ -13,17 +13,17 @@ use Rattle.model.specs.Tasks.{Edge, _∈_, Ends, noEdge}
 use Rattle.model.specs.Paths.{OrderHeld}
 use Rattle.model.specs.Compute.{orderHolds}
 use Rattle.model.specs.Theorems.{Decides}
+use Rattle.model.proofs.Theorems.{least-delay-is}
 use Rattle.model.proofs.Walks.{path-ends}
 use Rattle.model.proofs.Tests.{decides-yes, decides-no, decides-and, ltb-decides, order-holds}
-use Rattle.model.proofs.Theorems.{least-delay-is}
 use Rattle.records.specs.Columns.{heldEdge, edgesOf}
 use Rattle.records.proofs.Edges.{edges-length, edge-in, edge-out, edge-at}
 use Rattle.records.proofs.Rows.{product-small}
 use Rattle.delays.specs.Delays.{Fit}
 use Rattle.delays.specs.Rows.{LeastEntry}
-use Rattle.delays.proofs.Table.{table-length, table-at}
-use Rattle.delays.proofs.Steps.{fit-at}
 use Rattle.delays.proofs.Kept.{cut-least}
+use Rattle.delays.proofs.Steps.{fit-at}
+use Rattle.delays.proofs.Table.{table-length, table-at}
 use Rattle.redundancy.specs.Redundancy.{redundantIn, Tabled, LeastSum}
 use Rattle.redundancy.proofs.Between.{Between, ends-without, held-between}
 

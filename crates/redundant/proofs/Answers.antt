@@ -1,26 +1,23 @@
 -- What the call hands over is the definition's answer: no marks where something is refused, else those that the code of redundancy finds.
-use mathlib.Core.Path.{_≡_, sym, ap, _∙_, subst}
+use mathlib.Core.Path.{_≡_, sym, ap, _∙_}
 use mathlib.Core.Logic.{_≢_}
 use mathlib.Core.List.{List}
 use Prim.Native.Nat.{ℕ}
-use Rattle.model.specs.Tasks.{Edge}
-use Rattle.model.specs.Graph.{edges}
+use Rattle.model.specs.Graph.{count}
 use Rattle.model.specs.Compute.{isRedundant}
 use Rattle.files.specs.Files.{graphOf}
-use Rattle.marks.specs.Marks.{marksOf, setBelow, markAt}
-use Rattle.acceptance.specs.Acceptance.{acceptance}
-use Rattle.model.specs.Graph.{count}
-use Rattle.acceptance.specs.declared.Acceptance.{Acceptance}
-use Rattle.marks.specs.declared.Marks.{Marks}
-use Rattle.marks.proofs.Laws.{count-of}
-use Rattle.acceptance.specs.declared.Outcome.{Outcome}
-use Rattle.acceptance.specs.Outcomes.{outcome}
-use Rattle.acceptance.proofs.AcceptedFiles.{same-outcome, nothing, whole}
 use Rattle.readings.specs.declared.GraphReading.{GraphReading}
 use Rattle.readings.specs.Working.{graphIn}
-use Rattle.redundancy.specs.Redundancy.{redundantIn, Apart}
-use Rattle.redundancy.proofs.Graphs.{redundant-in, graph-apart}
-use Rattle.acceptance.specs.Acceptance.{AcceptedReading}
+use Rattle.marks.specs.declared.Marks.{Marks}
+use Rattle.marks.specs.Marks.{marksOf, setBelow, markAt}
+use Rattle.marks.proofs.Laws.{count-of}
+use Rattle.redundancy.specs.Redundancy.{redundantIn}
+use Rattle.redundancy.proofs.Graphs.{redundant-in}
+use Rattle.acceptance.specs.declared.Acceptance.{Acceptance}
+use Rattle.acceptance.specs.declared.Outcome.{Outcome}
+use Rattle.acceptance.specs.Acceptance.{acceptance, AcceptedReading}
+use Rattle.acceptance.specs.Outcomes.{outcome}
+use Rattle.acceptance.proofs.AcceptedFiles.{same-outcome, nothing, whole}
 use Rattle.acceptance.proofs.Fronts.{frontEdges}
 use Rattle.acceptance.proofs.Readings.{graph-fronts}
 use Rattle.redundant.specs.declared.RedundantSet.{RedundantSet}
@@ -53,11 +50,6 @@ module _ (s : List ℕ) {r : Acceptance} (is : r ≡ acceptance s) where
 -- ── The lists of an accepted graph ──
 
 module _ {graph : GraphReading} (given : AcceptedReading graph) where
-  pub lists-apart : Apart (graph .tasks) (frontEdges graph)
-  lists-apart =
-      let f = graph-fronts given in
-      graph-apart (graphIn graph) (given .accepted .formed) (given .accepted .no-zero-cycle) (f .tasks-are) (f .held)
-
   pub lists-marked : marksOf (redundantIn (graph .tasks) (frontEdges graph)) ≡ marksOf (isRedundant (graphIn graph))
   lists-marked =
       let f = graph-fronts given in

@@ -5,9 +5,9 @@ use Rattle.model.specs.Lists.{counted, sumOver}
 use Rattle.model.specs.Processors.{processorEdges}
 use Rattle.model.specs.Graph.{count, edges}
 use Rattle.model.specs.Compute.{isRedundant}
-use Rattle.marks.specs.Marks.{number, wordOf, marksOf, setBelow}
 use Rattle.files.specs.Refusals.{ifPassed}
 use Rattle.files.proofs.Example.{deskBytes, desk-file}
+use Rattle.marks.specs.Marks.{number, wordOf, marksOf, setBelow}
 use Rattle.acceptance.proofs.Example.{desk-given}
 use Rattle.redundant.specs.Redundant.{noMarks, redundantOf}
 

@@ -5,28 +5,28 @@ use mathlib.Core.Logic.{_⊎_, inl, inr, _≢_}
 use mathlib.Core.Bool.{Bool, false}
 use mathlib.Core.List.{List·Memᴰ}
 use Prim.Native.Nat.{ℕ, _≤_, _<_, zero-le, suc, _-_, zero, _/_, _%_, _^_}
+use native.Mathlib.Nat.{zero-div}
 use native.Mathlib.Omega.{arith}
 use lib.Dec.{T, eqb}
 use lib.ListN.{length, getD}
+use Rattle.model.specs.Lists.{sumOver}
+use Rattle.model.specs.Graph.{count}
+use Rattle.model.specs.Paths.{Redundant}
+use Rattle.model.specs.Runs.{ends}
 use Rattle.model.specs.Compute.{isRedundant}
 use Rattle.model.specs.Theorems.{Decides}
+use Rattle.model.proofs.Theorems.{redundant-is}
 use Rattle.model.proofs.Tests.{decides-yes}
 use Rattle.files.specs.Files.{graphOf}
 use Rattle.files.proofs.First.{zero-or-not, if-refused, refused, if-passed}
-use Rattle.marks.specs.Marks.{marksOf, setBelow, markAt, bitOf, placesBelow}
-use Rattle.acceptance.specs.Acceptance.{acceptanceRefusal}
-use Rattle.acceptance.proofs.Judged.{accepted-iff-passed}
-use Rattle.model.specs.Graph.{count}
-use Rattle.model.proofs.Theorems.{redundant-is}
 use Rattle.marks.specs.declared.Marks.{Marks}
+use Rattle.marks.specs.Marks.{marksOf, setBelow, markAt, bitOf, placesBelow}
 use Rattle.marks.proofs.Laws.{count-of, mark-of, set-below-past}
-use native.Mathlib.Nat.{zero-div}
-use Rattle.model.specs.Runs.{ends}
-use Rattle.model.specs.Lists.{sumOver}
-use Rattle.model.specs.Paths.{Redundant}
 use Rattle.marks.proofs.Listed.{places-are}
+use Rattle.acceptance.specs.Acceptance.{acceptanceRefusal}
 use Rattle.acceptance.specs.Outcomes.{outcome}
 use Rattle.acceptance.proofs.AcceptedFiles.{accepted}
+use Rattle.acceptance.proofs.Judged.{accepted-iff-passed}
 use Rattle.redundant.specs.Redundant.{noMarks, redundantOf}
 use Rattle.redundant.specs.Theorems.{RedundantGiven, RedundantRefused, RedundantMean, RedundantCounted, RedundantListed}
 

@@ -4,8 +4,8 @@ use mathlib.Core.List.{List, [], _∷_}
 use Prim.Native.Nat.{ℕ}
 use Rattle.model.specs.Graph.{count}
 use Rattle.model.specs.Compute.{isRedundant}
-use Rattle.files.specs.Refusals.{ifPassed}
 use Rattle.files.specs.Files.{graphOf}
+use Rattle.files.specs.Refusals.{ifPassed}
 use Rattle.marks.specs.declared.Marks.{Marks}
 use Rattle.marks.specs.Marks.{marksOf, setBelow}
 use Rattle.acceptance.specs.Acceptance.{acceptanceRefusal}

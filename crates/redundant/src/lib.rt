@@ -1,8 +1,8 @@
 // The call for the redundant edges of a graph. It asks nothing of its caller.
 ghost use mathlib.Core.Path.{_≡_};
 ghost use Rattle.model.specs.Compute.{isRedundant};
-ghost use Rattle.marks.specs.Marks.{marksOf};
 ghost use Rattle.readings.specs.Working.{graphIn};
+ghost use Rattle.marks.specs.Marks.{marksOf};
 ghost use Rattle.acceptance.specs.Acceptance.{AcceptedReading};
 ghost use Rattle.redundant.specs.Redundant.{noMarks, redundantOf};
 use acceptance::Outcome;

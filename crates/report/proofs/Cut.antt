@@ -11,28 +11,28 @@ use lib.IntN.{pos}
 use lib.ListN.{length, take}
 use lib.Seq.{take-all}
 use borrow.Author.Tests.{ne-eqb}
-use Rattle.model.specs.Graph.{Graph}
 use Rattle.model.specs.Lists.{counted}
+use Rattle.model.specs.Graph.{Graph}
 use Rattle.model.specs.Compute.{isRedundant, latencyOf}
 use Rattle.model.proofs.Basics.{order}
+use Rattle.layout.specs.Layout.{graphHeader, proposalHeader}
 use Rattle.files.specs.declared.Refusal.{Refusal}
-use Rattle.files.specs.Refusals.{ifPassed}
 use Rattle.files.specs.Files.{graphOf, graphRefusal, proposalRefusal}
+use Rattle.files.specs.Refusals.{ifPassed}
 use Rattle.files.proofs.First.{stops, passes, number-same, zero-or-not, if-refused}
 use Rattle.marks.specs.Marks.{marksOf, setBelow}
 use Rattle.acceptance.specs.Acceptance.{acceptanceRefusal}
+use Rattle.acceptance.specs.Outcomes.{outcome, tasksOf}
 use Rattle.acceptance.specs.Theorems.{Judged, zero-cycle, input-waits, not-joined, bound-below, passes as judged-passes}
 use Rattle.acceptance.proofs.Accepting.{refused-before}
 use Rattle.acceptance.proofs.Judged.{refused-iff-judged}
-use Rattle.acceptance.specs.Outcomes.{outcome, tasksOf}
 use Rattle.figures.specs.Figures.{figuresOf}
 use Rattle.redundant.specs.Redundant.{noMarks, redundantOf}
-use Rattle.verdict.specs.Verdict.{margin, verdictRefusal, countedMargin, toldLate, resultLatency, verdictOf, VerdictAnswer}
 use Rattle.verdict.specs.declared.ProposalVerdict.{ProposalVerdict}
+use Rattle.verdict.specs.Verdict.{margin, verdictRefusal, countedMargin, toldLate, resultLatency, verdictOf, VerdictAnswer}
 use Rattle.report.specs.Report.{printed, textOf}
 use Rattle.report.specs.Theorems.{FiguresCut, RedundantCut, VerdictCut, ReportCut}
 use Rattle.report.proofs.Long.{LongNumber, long-graph, long-graph-number, graph-front, long-proposal, long-proposal-number, proposal-front}
-use Rattle.layout.specs.Layout.{graphHeader, proposalHeader}
 
 -- ── Graphs ──
 

@@ -15,8 +15,8 @@ use Rattle.layout.specs.declared.GraphHeader.{GraphHeader}
 use Rattle.layout.specs.declared.ProposalHeader.{ProposalHeader}
 use Rattle.layout.specs.Layout.{graphHeader, proposalHeader, bytesFor}
 use Rattle.files.specs.declared.Refusal.{Refusal}
-use Rattle.files.specs.Refusals.{notRefused, refuse, first}
 use Rattle.files.specs.Files.{taskCount, edgeCount, graphOf, proposalOf, graphBits, proposalBits, graphHeaderRefusal, proposalHeaderRefusal, lengthRefusal, fillingRefusal, zerosRefusal, headerEndsRefusal, graphFrameRefusal, graphRecordsRefusal, graphRefusal, proposalFrameRefusal, proposedEdgesRefusal, proposalRefusal}
+use Rattle.files.specs.Refusals.{notRefused, refuse, first}
 use Rattle.files.proofs.First.{check-passes, check-stops, no-checks, goes-on, ends-with}
 use Rattle.readings.proofs.Passed.{or-left-false, or-right-false}
 

@@ -3,12 +3,12 @@ use mathlib.Core.Path.{_≡_, sym, ap, _∙_}
 use mathlib.Core.List.{List, [], _∷_, _++_, append-assoc}
 use Prim.Native.Nat.{ℕ, suc, _+_}
 use lib.ListN.{length, length-append}
+use Rattle.text.specs.Text.{space, newline, decimal, signed, spaced, numbers, line}
 use Rattle.marks.specs.Marks.{markAt, placesBelow}
 use Rattle.acceptance.specs.declared.Outcome.{Outcome}
 use Rattle.figures.specs.declared.GraphFigures.{GraphFigures}
 use Rattle.redundant.specs.declared.RedundantSet.{RedundantSet}
 use Rattle.verdict.specs.declared.ProposalVerdict.{ProposalVerdict}
-use Rattle.text.specs.Text.{space, newline, decimal, signed, spaced, numbers, line}
 use Rattle.report.specs.Report.{graphWord, redundantWord, acceptedWord, refusedWord, graphLine, redundantLine, acceptedLine, refusedLine}
 
 -- a line's first field may stand with its word

@@ -12,17 +12,17 @@ use Rattle.model.specs.Lists.{put}
 use Rattle.model.specs.Compute.{isRedundant}
 use Rattle.files.specs.Files.{graphOf}
 use Rattle.files.proofs.First.{zero-or-not, if-passed, if-refused}
-use Rattle.marks.specs.Marks.{markAt, setBelow, placesBelow}
-use Rattle.marks.proofs.Laws.{set-below-le}
-use Rattle.acceptance.specs.Acceptance.{acceptanceRefusal}
-use Rattle.acceptance.specs.declared.Outcome.{Outcome}
-use Rattle.figures.specs.declared.GraphFigures.{GraphFigures}
-use Rattle.redundant.specs.Redundant.{redundantOf}
-use Rattle.redundant.specs.declared.RedundantSet.{RedundantSet}
-use Rattle.verdict.specs.declared.ProposalVerdict.{ProposalVerdict}
 use Rattle.text.specs.Text.{digit, digitsWithin, decimal, signed, spaced, numbers}
 use Rattle.text.proofs.Decimal.{digits-within}
 use Rattle.text.proofs.Fields.{fields, fields-append, field-one}
+use Rattle.marks.specs.Marks.{markAt, setBelow, placesBelow}
+use Rattle.marks.proofs.Laws.{set-below-le}
+use Rattle.acceptance.specs.declared.Outcome.{Outcome}
+use Rattle.acceptance.specs.Acceptance.{acceptanceRefusal}
+use Rattle.figures.specs.declared.GraphFigures.{GraphFigures}
+use Rattle.redundant.specs.declared.RedundantSet.{RedundantSet}
+use Rattle.redundant.specs.Redundant.{redundantOf}
+use Rattle.verdict.specs.declared.ProposalVerdict.{ProposalVerdict}
 use Rattle.report.specs.Report.{graphLine, redundantLine, acceptedLine, refusedLine, verdictLine, printed}
 use Rattle.report.proofs.Pieces.{graph-length, redundant-length, accepted-length, refused-length}
 use Rattle.report.proofs.Whole.{verdict-accepted, verdict-refused, printed-refused, whole-length}

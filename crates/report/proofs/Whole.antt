@@ -8,16 +8,16 @@ use native.Mathlib.Omega.{arith}
 use lib.ListN.{length, take, drop, replicate, length-append, length-replicate, replicate-append-replicate}
 use lib.Seq.{take-at, drop-at, length-take-le}
 use Rattle.files.proofs.First.{if-passed, if-refused}
+use Rattle.text.specs.Text.{Appended}
 use Rattle.marks.specs.declared.Marks.{Marks}
 use Rattle.marks.specs.declared.Places.{Places}
 use Rattle.marks.specs.Marks.{markAt, setBelow, placesBelow, placesOf}
 use Rattle.marks.proofs.Listed.{places-counted}
-use Rattle.figures.specs.Figures.{figuresOf}
 use Rattle.figures.specs.declared.GraphFigures.{GraphFigures}
-use Rattle.redundant.specs.Redundant.{redundantOf}
+use Rattle.figures.specs.Figures.{figuresOf}
 use Rattle.redundant.specs.declared.RedundantSet.{RedundantSet}
+use Rattle.redundant.specs.Redundant.{redundantOf}
 use Rattle.verdict.specs.declared.ProposalVerdict.{ProposalVerdict}
-use Rattle.text.specs.Text.{Appended}
 use Rattle.report.specs.declared.Text.{Text}
 use Rattle.report.specs.Report.{graphLine, redundantLine, acceptedLine, refusedLine, verdictLine, printed, textOf, Reported}
 

@@ -4,15 +4,15 @@ use mathlib.Core.List.{List, [], _∷_, _++_}
 use Prim.Native.Nat.{ℕ, _-_}
 use lib.ListN.{length, replicate}
 use Rattle.files.specs.Refusals.{ifPassed}
+use Rattle.text.specs.Text.{decimal, signed, numbers, line}
 use Rattle.marks.specs.Marks.{markAt, placesBelow}
 use Rattle.acceptance.specs.declared.Outcome.{Outcome}
-use Rattle.figures.specs.Figures.{figuresOf}
 use Rattle.figures.specs.declared.GraphFigures.{GraphFigures}
-use Rattle.redundant.specs.Redundant.{redundantOf}
+use Rattle.figures.specs.Figures.{figuresOf}
 use Rattle.redundant.specs.declared.RedundantSet.{RedundantSet}
-use Rattle.verdict.specs.Verdict.{VerdictAnswer}
+use Rattle.redundant.specs.Redundant.{redundantOf}
 use Rattle.verdict.specs.declared.ProposalVerdict.{ProposalVerdict}
-use Rattle.text.specs.Text.{decimal, signed, numbers, line}
+use Rattle.verdict.specs.Verdict.{VerdictAnswer}
 use Rattle.report.specs.declared.Text.{Text}
 
 -- the words of the lines, in ASCII

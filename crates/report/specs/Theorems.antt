@@ -7,8 +7,8 @@ use Prim.Native.Nat.{ℕ, _<_}
 use lib.ListN.{take}
 use Rattle.figures.specs.Figures.{figuresOf}
 use Rattle.redundant.specs.Redundant.{redundantOf}
-use Rattle.verdict.specs.Verdict.{VerdictAnswer}
 use Rattle.verdict.specs.declared.ProposalVerdict.{ProposalVerdict}
+use Rattle.verdict.specs.Verdict.{VerdictAnswer}
 use Rattle.report.specs.declared.Text.{Text}
 use Rattle.report.specs.Report.{Reported}
 

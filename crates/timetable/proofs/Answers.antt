@@ -7,19 +7,19 @@ use Prim.Native.Nat.{ℕ, _*_, _≤_, _<_}
 use native.Mathlib.Omega.{arith}
 use lib.Dec.{ltb}
 use lib.ListN.{length, drop}
+use borrow.Author.Tests.{lt-ltb, le-ltb}
 use Rattle.model.proofs.Basics.{order}
+use Rattle.records.specs.Columns.{at}
 use Rattle.files.specs.declared.Refusal.{Refusal}
 use Rattle.files.specs.Refusals.{first, notRefused}
 use Rattle.files.proofs.First.{passes, stops, number-same, if-refused, refused, not-refused, if-passed}
-use Rattle.acceptance.specs.Acceptance.{acceptanceRefusal, acceptance}
-use borrow.Author.Tests.{lt-ltb, le-ltb}
-use Rattle.acceptance.specs.declared.Acceptance.{Acceptance}
-use Rattle.acceptance.proofs.Fronts.{frontEdges, front}
-use Rattle.records.specs.Columns.{at}
 use Rattle.starts.specs.Starts.{turnRows}
+use Rattle.acceptance.specs.declared.Acceptance.{Acceptance}
 use Rattle.acceptance.specs.declared.Outcome.{Outcome}
+use Rattle.acceptance.specs.Acceptance.{acceptanceRefusal, acceptance}
 use Rattle.acceptance.specs.Outcomes.{outcome, roomRefusal, tasksOf}
 use Rattle.acceptance.proofs.AcceptedFiles.{refusal-given, read-fronts}
+use Rattle.acceptance.proofs.Fronts.{frontEdges, front}
 use Rattle.acceptance.proofs.Rooms.{room-there, same-room}
 use Rattle.timetable.specs.Timetable.{turnsRefusal, startsOf, timetableRefusal, timetableAfter}
 

@@ -14,8 +14,8 @@ use Rattle.files.proofs.First.{stops, check-passes, no-checks, number-same, non
 use Rattle.acceptance.specs.Acceptance.{acceptanceRefusal}
 use Rattle.acceptance.specs.Outcomes.{roomRefusal, tasksOf}
 use Rattle.acceptance.proofs.Rooms.{first-later, gives-it, gives-later, up-to-12, accepted-given, accepted-short, no-place}
-use Rattle.timetable.specs.Timetable.{turnsRefusal, timetableRefusal}
 use Rattle.timetable.specs.Theorems.{TimetableGiven, TimetableShort, TurnsOutside, TimetableRefused, OutsideNoPlace, TimetablePlain}
+use Rattle.timetable.specs.Timetable.{turnsRefusal, timetableRefusal}
 
 -- a list's room and the checks up to 12 do not give 17
 module _ (needed room : ℕ) where

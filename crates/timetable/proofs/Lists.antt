@@ -2,21 +2,21 @@
 use mathlib.Core.Path.{_≡_, refl, _∙_, subst}
 use mathlib.Core.List.{List}
 use Prim.Native.Nat.{ℕ, _*_, _<_, suc, _+_}
+use native.Mathlib.Nat.{mul-comm}
 use lib.ListN.{length, getD}
+use Rattle.model.specs.Graph.{edges, timeOf}
+use Rattle.model.specs.Runs.{estimates}
 use Rattle.model.specs.Compute.{earliest}
+use Rattle.records.proofs.Fill.{getD-tabulate}
+use Rattle.records.proofs.Rows.{rows-length, rows-at, place-within}
 use Rattle.files.specs.Files.{graphOf}
 use Rattle.files.proofs.First.{if-refused}
-use Rattle.model.specs.Graph.{edges, timeOf}
 use Rattle.starts.specs.Starts.{turnRows, turnRow}
-use native.Mathlib.Nat.{mul-comm}
-use Rattle.model.specs.Runs.{estimates}
-use Rattle.records.proofs.Rows.{rows-length, rows-at, place-within}
-use Rattle.records.proofs.Fill.{getD-tabulate}
 use Rattle.starts.proofs.Turns.{row-length}
 use Rattle.acceptance.specs.Outcomes.{tasksOf}
 use Rattle.acceptance.proofs.Written.{kept-past, written-at}
-use Rattle.timetable.specs.Timetable.{startsOf, timetableRefusal, timetableAfter}
 use Rattle.timetable.specs.Theorems.{TimetableKept, TimetablePast}
+use Rattle.timetable.specs.Timetable.{startsOf, timetableRefusal, timetableAfter}
 use Rattle.timetable.proofs.Given.{timetable-given}
 
 turn-length : (s : List ℕ) (k : ℕ) → length (turnRow (tasksOf s) (edges (graphOf s)) (timeOf (graphOf s)) k) ≡ tasksOf s

@@ -4,11 +4,11 @@ use mathlib.Core.List.{List}
 use Prim.Native.Nat.{ℕ, suc, _-_}
 use native.Mathlib.Omega.{arith}
 use lib.ListN.{length}
-use Rattle.model.specs.Compute.{earliest}
-use Rattle.files.specs.Files.{graphOf}
 use Rattle.model.specs.Graph.{count, edges, timeOf}
-use Rattle.model.proofs.Theorems.{earliest-run, earliest-unique}
 use Rattle.model.specs.Runs.{estimates, Earliest}
+use Rattle.model.specs.Compute.{earliest}
+use Rattle.model.proofs.Theorems.{earliest-run, earliest-unique}
+use Rattle.files.specs.Files.{graphOf}
 use Rattle.acceptance.specs.Outcomes.{tasksOf}
 use Rattle.acceptance.specs.Theorems.{AcceptedFile}
 use Rattle.acceptance.proofs.AcceptedFiles.{accepted, between-tasks}

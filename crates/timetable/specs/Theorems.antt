@@ -7,8 +7,8 @@ use Prim.Native.Nat.{ℕ, _+_, _-_, _*_, _≤_, _<_}
 use lib.ListN.{length, getD}
 use Rattle.model.specs.Graph.{edges, timeOf}
 use Rattle.model.specs.Runs.{Times, Earliest, estimates}
-use Rattle.files.specs.Refusals.{notRefused}
 use Rattle.files.specs.Files.{graphOf}
+use Rattle.files.specs.Refusals.{notRefused}
 use Rattle.acceptance.specs.Acceptance.{acceptanceRefusal}
 use Rattle.acceptance.specs.Outcomes.{tasksOf}
 use Rattle.acceptance.specs.Theorems.{AcceptedFile}

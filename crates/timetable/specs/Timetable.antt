@@ -7,8 +7,8 @@ use lib.Dec.{ltb}
 use lib.ListN.{length, drop}
 use Rattle.model.specs.Graph.{edges, timeOf}
 use Rattle.files.specs.declared.Refusal.{Refusal}
-use Rattle.files.specs.Refusals.{refuse, first, ifPassed}
 use Rattle.files.specs.Files.{graphOf}
+use Rattle.files.specs.Refusals.{refuse, first, ifPassed}
 use Rattle.starts.specs.Starts.{turnRows}
 use Rattle.acceptance.specs.Acceptance.{acceptanceRefusal}
 use Rattle.acceptance.specs.Outcomes.{roomRefusal, tasksOf}

@@ -12,27 +12,27 @@ use Rattle.model.specs.Compute.{latencyOf}
 use Rattle.model.specs.Proposals.{result}
 use Rattle.model.proofs.Tests.{decided, eqb-decides}
 use Rattle.files.specs.declared.Refusal.{Refusal}
-use Rattle.files.specs.Refusals.{ifPassed}
 use Rattle.files.specs.Files.{graphOf, proposalOf, proposalRefusal}
+use Rattle.files.specs.Refusals.{ifPassed}
 use Rattle.files.proofs.First.{passes, stops, number-same, last-answer, if-refused}
 use Rattle.files.proofs.Numbers.{proposal-numbers}
 use Rattle.readings.specs.declared.ProposalReading.{ProposalReading}
 use Rattle.readings.specs.Working.{workingProposal, proposalReading, graphIn, proposedIn}
-use Rattle.readings.proofs.Held.{proposal-given, proposal-refusal-given, proposed-in-working}
 use Rattle.readings.proofs.Accepted.{proposal-formed}
+use Rattle.readings.proofs.Held.{proposal-given, proposal-refusal-given, proposed-in-working}
 use Rattle.acceptance.specs.declared.Acceptance.{Acceptance}
+use Rattle.acceptance.specs.declared.Outcome.{Outcome}
 use Rattle.acceptance.specs.Acceptance.{acceptanceRefusal, acceptance}
+use Rattle.acceptance.specs.Outcomes.{tasksOf, outcome}
+use Rattle.acceptance.specs.Theorems.{AcceptedFile}
+use Rattle.acceptance.proofs.AcceptedFiles.{refusal-given, accepted, read-fronts, graph-held, accepted-reading}
+use Rattle.acceptance.proofs.Rooms.{up-to-12}
 use Rattle.judgement.specs.declared.Judgement.{Judgement}
 use Rattle.judgement.specs.Judgement.{tellsLatency, judgedRefusal, judgement, OpenPlace}
 use Rattle.judgement.specs.Searches.{Judgeable}
 use Rattle.judgement.proofs.Sizes.{told-latency-small}
-use Rattle.acceptance.specs.declared.Outcome.{Outcome}
 use Rattle.verdict.specs.declared.ProposalVerdict.{ProposalVerdict}
-use Rattle.acceptance.specs.Outcomes.{tasksOf, outcome}
-use Rattle.acceptance.specs.Theorems.{AcceptedFile}
 use Rattle.verdict.specs.Verdict.{margin, toldLate, verdictRefusal, resultLatency, verdictOf, VerdictAnswer}
-use Rattle.acceptance.proofs.AcceptedFiles.{refusal-given, accepted, read-fronts, graph-held, accepted-reading}
-use Rattle.acceptance.proofs.Rooms.{up-to-12}
 use Rattle.verdict.proofs.Told.{told-plain}
 
 -- ── Refused files ──

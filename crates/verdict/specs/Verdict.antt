@@ -10,13 +10,13 @@ use Rattle.model.specs.Lists.{counted}
 use Rattle.model.specs.Compute.{latencyOf}
 use Rattle.model.specs.Proposals.{result}
 use Rattle.files.specs.declared.Refusal.{Refusal}
-use Rattle.files.specs.Refusals.{first, ifPassed}
 use Rattle.files.specs.Files.{graphOf, proposalOf, proposalRefusal}
-use Rattle.acceptance.specs.Acceptance.{acceptanceRefusal}
-use Rattle.judgement.specs.Judgement.{judgedRefusal, OpenPlace}
+use Rattle.files.specs.Refusals.{first, ifPassed}
 use Rattle.acceptance.specs.declared.Outcome.{Outcome}
-use Rattle.verdict.specs.declared.ProposalVerdict.{ProposalVerdict}
+use Rattle.acceptance.specs.Acceptance.{acceptanceRefusal}
 use Rattle.acceptance.specs.Outcomes.{tasksOf}
+use Rattle.judgement.specs.Judgement.{judgedRefusal, OpenPlace}
+use Rattle.verdict.specs.declared.ProposalVerdict.{ProposalVerdict}
 
 -- "margin, which is bound minus latency and may be negative"
 unfoldable pub margin : ℕ → ℕ → ℤ

@@ -1,7 +1,7 @@
 // The verdict on a proposal. The call asks nothing of its caller.
 ghost use mathlib.Core.Path.{_≡_};
-ghost use lib.IntN.{pos};
 ghost use Prim.Native.Nat.{_<_};
+ghost use lib.IntN.{pos};
 ghost use Rattle.files.specs.Refusals.{ifPassed};
 ghost use Rattle.acceptance.specs.Outcomes.{outcome};
 ghost use Rattle.verdict.specs.Verdict.{margin, toldLate, VerdictAnswer};

@@ -1,7 +1,8 @@
 -- `plan::planned` meets its contract: the first stage, and the steps from it. The table has room for the least delays between all tasks.
 use native.Mathlib.Omega.{arith}
+use Rattle.redundancy.proofs.Graphs.{graph-apart}
 use Rattle.acceptance.proofs.Readings.{graph-fronts, graph-within, few-tasks, as-many-edges, original-fit, square-small}
-use Rattle.plan.proofs.Beginning.{lists-apart, first-held, table-held}
+use Rattle.plan.proofs.Beginning.{first-held, table-held}
 use borrow.Author.Needs.{needs}
 use Rattle.plan.proofs.planned.Statement.{statement}
 use Rattle.plan.proofs.planned.Tie as tie
@@ -54,7 +55,7 @@ first-stage-requires c κs =
       (held .as-many-sinks, held .as-many-delays),
       (
         (few-tasks given, omega (arith, long), omega (arith, long, few, held .edges-are)),
-        (original-fit given, (lists-apart given, square-small given)),
+        (original-fit given, (graph-apart _ (given .accepted .formed) (given .accepted .no-zero-cycle) (held .tasks-are) (held .held), square-small given)),
       ),
     )
 

@@ -4,9 +4,10 @@ use Prim.Native.Nat.{ℕ}
 use native.Mathlib.Omega.{arith}
 use lib.ListN.{length-replicate}
 use Rattle.delays.proofs.Table.{table-front, table-room}
+use Rattle.redundancy.proofs.Graphs.{graph-apart}
 use Rattle.acceptance.proofs.Fronts.{frontEdges}
 use Rattle.acceptance.proofs.Readings.{graph-fronts, graph-within, few-tasks, as-many-edges, few-edges, original-fit, square-small}
-use Rattle.redundant.proofs.Answers.{lists-apart, lists-marked}
+use Rattle.redundant.proofs.Answers.{lists-marked}
 use borrow.Author.Needs.{needs}
 use Rattle.redundant.proofs.marks_of.Statement.{statement}
 use Rattle.redundant.proofs.marks_of.Tie as tie
@@ -102,7 +103,7 @@ redundant-marks-requires c κs =
       (held .as-many-sinks, held .as-many-delays),
       (
         (few-tasks given, omega (arith, as-many-edges given, few-edges given)),
-        (original-fit given, (lists-apart given, table-front (c .before .before .before .before .before .before .before .before .before .before .before .before .before .before .before .before .before .before .before .before .before .before .args .graph .tasks) (frontEdges (c .before .before .before .before .before .before .before .before .before .before .before .before .before .before .before .before .before .before .before .before .before .before .args .graph)) _ (c .before .before .before .before .before .before .before .before .before .least-table .ensures))),
+        (original-fit given, (graph-apart _ (given .accepted .formed) (given .accepted .no-zero-cycle) (held .tasks-are) (held .held), table-front (c .before .before .before .before .before .before .before .before .before .before .before .before .before .before .before .before .before .before .before .before .before .before .args .graph .tasks) (frontEdges (c .before .before .before .before .before .before .before .before .before .before .before .before .before .before .before .before .before .before .before .before .before .before .args .graph)) _ (c .before .before .before .before .before .before .before .before .before .least-table .ensures))),
       ),
     )
 

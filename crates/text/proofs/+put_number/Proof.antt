@@ -1,7 +1,7 @@
 -- The proof of the cycle of calls {put_number}: a number of one digit is put, of any other the digits of n / 10 and the last one. The measure is
 -- the number.
 use mathlib.Core.Path.{sym, _∙_, subst}
-use Prim.Native.Nat.{ℕ, _+_, _/_, _≤_, _<_}
+use Prim.Native.Nat.{ℕ, _/_, _≤_, _<_}
 use native.Mathlib.Omega.{arith}
 use borrow.Fn.Kinds.{In}
 use borrow.Fn.PlainCycle.{Measures, is, falls, and}

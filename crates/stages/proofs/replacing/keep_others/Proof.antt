@@ -2,12 +2,11 @@
 -- and what lies from place j on is as it was.
 use mathlib.Core.Path.{_≡_, refl, sym, ap, _∙_}
 use mathlib.Core.Logic.{⊎-elim}
-use mathlib.Core.List.{List, [], _∷_, _++_}
+use mathlib.Core.List.{[], _∷_, _++_}
 use mathlib.Core.Bool.{Bool, not}
 use Prim.Native.Nat.{ℕ, _-_, _≤_}
 use native.Mathlib.Omega.{arith}
 use native.Mathlib.Nat.{le-refl}
-use lib.ListN.{length}
 use Rattle.model.specs.Lists.{keep, tabulate}
 use Rattle.model.specs.Tasks.{Edge}
 use Rattle.records.specs.Columns.{heldEdge, at}
