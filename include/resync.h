@@ -4,6 +4,9 @@
  * bound. A proposal file lists other synchronization edges. Both are given as their bytes, whatever they hold: a file that is no
  * graph or no proposal is refused, never a fault.
  *
+ * What each call does is proved (docs/DOUBT.md). That these declarations are the library's, and the fields of the records stand in
+ * its sequence, is not: the tests in C hold it (c/test.c).
+ *
  * Refusals. Each answer has a refusal, or is one; number 0 says that the call succeeded. In a refused answer every other field is
  * 0, and a lent list keeps its contents.
  *

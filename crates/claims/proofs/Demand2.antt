@@ -1,5 +1,5 @@
--- Demand 2, proved: each number is given by a function of the model whose meaning the model proves, in the place that the rows give it (the
--- Meanings of the calls' crates). Here those meanings are read off the answers themselves: numbers in lists, bits of words, and of a verdict its latency and margin.
+-- Demand 2, proved: each number is given by a function of the model whose meaning the model proves, in the place that the rows give it (the Meanings of the
+-- calls' crates). Here those meanings are read off the answers themselves: numbers in lists, bits of words, and of a verdict its latency and margin.
 use mathlib.Core.Path.{_≡_, refl, sym, ap, _∙_, subst}
 use mathlib.Core.Logic.{_↔_, _⊎_, inl, inr, _≢_}
 use mathlib.Core.Bool.{Bool, cond, not}

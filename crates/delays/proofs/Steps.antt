@@ -36,7 +36,7 @@ fit-wide few fit = record { ends = λ e m. (omega (arith, fit .ends e m .0), ome
 
 -- The first edges of three lists, so many, are taken into a square: an entry below 16,383 is the delay of an edge with these ends, and none of the edges
 -- taken has less than the entry of its ends.
-pub record Taken (source sink delay : List ℕ) (count : ℕ) (square : List ℕ) : Type 0 where
+pub record StepsTaken (source sink delay : List ℕ) (count : ℕ) (square : List ℕ) : Type 0 where
   pub size : length square ≡ 4096
   pub small : (i : ℕ) → i < 4096 → getD square i 0 ≤ 16383
   pub held :
@@ -45,7 +45,7 @@ pub record Taken (source sink delay : List ℕ) (count : ℕ) (square : List ℕ
   pub least : (j : ℕ) → j < count → rowAt square (getD source j 0) (getD sink j 0) ≤ getD delay j 0
 
 module _ (source sink delay : List ℕ) where
-  pub none-taken : {square : List ℕ} → square ≡ replicate 4096 16383 → Taken source sink delay 0 square
+  pub none-taken : {square : List ℕ} → square ≡ replicate 4096 16383 → StepsTaken source sink delay 0 square
   none-taken {square} blank = record {
     size = ap length blank ∙ length-replicate {A = ℕ} 4096 16383;
     small = λ i l. let is = far i l in omega arith;
@@ -58,9 +58,9 @@ module _ (source sink delay : List ℕ) where
 
   -- the entry of one edge's ends more lowered to its delay
   pub one-taken :
-      {j v : ℕ} {square : List ℕ} → Fit 64 (edgesOf source sink delay) → j < length source → Taken source sink delay j square
+      {j v : ℕ} {square : List ℕ} → Fit 64 (edgesOf source sink delay) → j < length source → StepsTaken source sink delay j square
       → v ≡ min (rowAt square (getD source j 0) (getD sink j 0)) (getD delay j 0)
-      → Taken source sink delay (j + 1) (set square (getD source j 0 * 64 + getD sink j 0) v)
+      → StepsTaken source sink delay (j + 1) (set square (getD source j 0 * 64 + getD sink j 0) v)
   unfolding heldEdge
   one-taken {j} {v} {square} fit below taken value = record {
     size = length-set square place v ∙ taken .size;
@@ -119,7 +119,7 @@ module _ (source sink delay : List ℕ) where
           subst (λ (x : ℕ). rowAt (set square place v) (getD source x 0) (getD sink x 0) ≤ getD delay x 0) same (omega (arith, here, value))
 
   pub all-taken :
-      {count : ℕ} {square : List ℕ} → length source ≤ count → Taken source sink delay count square → StepsOf (edgesOf source sink delay) square
+      {count : ℕ} {square : List ℕ} → length source ≤ count → StepsTaken source sink delay count square → StepsOf (edgesOf source sink delay) square
   unfolding heldEdge
   all-taken {count} {square} whole taken = record {
     size = taken .size;

@@ -2,7 +2,7 @@
 pub mod First
 pub mod Single
 pub mod Repeats
-pub mod Marks
+pub mod Repeated
 pub mod Frame
 pub mod Example
 pub mod Numbers

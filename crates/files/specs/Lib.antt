@@ -1,4 +1,4 @@
 pub mod Refusals
-pub mod Marks
+pub mod Repeated
 pub mod Files
 pub mod Theorems

@@ -7,7 +7,7 @@ ghost use lib.ListN.{length};
 ghost use Rattle.model.specs.Tasks.{Task, Edge};
 ghost use Rattle.model.specs.Graph.{Graph};
 ghost use Rattle.files.specs.Files.{firstOf, timeRefusal, endsRefusal, edgeRefusal, repeatRefusal, repeatsEarlier, graphRecordsRefusal, proposedEdgesRefusal};
-ghost use Rattle.files.specs.Marks.{edgePlace, Marked};
+ghost use Rattle.files.specs.Repeated.{edgePlace, SeenBefore};
 ghost use Rattle.records.specs.Columns.{ProcessorsOf, TimesOf, SourcesOf, SinksOf, DelaysOf};
 use crate::PASSED;
 use crate::Refusal;
@@ -106,7 +106,7 @@ fn edge_place(source: u8, sink: u8, delay: u8) -> usize
 
 // Whether edge j has the source, sink and delay of an earlier one, where the place of each earlier one is marked; its own is marked too. The
 // earlier ones are compared only if it was marked before.
-fn repeats_marked<'a>(
+fn repeats_seen<'a>(
     source: &'a [u8],
     sink: &'a [u8],
     delay: &'a [u8],
@@ -116,9 +116,9 @@ fn repeats_marked<'a>(
     requires { ⌜ j < length (now source) ⌝ }
     requires { ⌜ length (now sink) ≡ length (now source) ⌝ }
     requires { ⌜ length (now delay) ≡ length (now source) ⌝ }
-    requires { ⌜ Marked (now source) (now sink) (now delay) j (now seen) ⌝ }
+    requires { ⌜ SeenBefore (now source) (now sink) (now delay) j (now seen) ⌝ }
     ensures { λ r. ⌜ ((es : List Edge) → SourcesOf es (now (source .entry)) → SinksOf es (now (sink .entry)) → DelaysOf es (now (delay .entry)) → r ≡ repeatsEarlier es j) ⌝ }
-    ensures { λ _. ⌜ Marked (now (source .entry)) (now (sink .entry)) (now (delay .entry)) (j + 1) (now (seen .exit)) ⌝ }
+    ensures { λ _. ⌜ SeenBefore (now (source .entry)) (now (sink .entry)) (now (delay .entry)) (j + 1) (now (seen .exit)) ⌝ }
 {
     let place = edge_place(source[j], sink[j], delay[j]);
     if seen[place] == 0 {
@@ -138,7 +138,7 @@ fn repeats_refusal<'a>(source: &'a [u8], sink: &'a [u8], delay: &'a [u8]) -> Ref
     let mut seen: [u8; 4096] = [0; 4096];
     let mut j = 0;
     while j < source.len() {
-        if repeats_marked(source, sink, delay, j, &mut seen) {
+        if repeats_seen(source, sink, delay, j, &mut seen) {
             return Refusal {
                 number: 8,
                 place: j as u32 + 1,

@@ -1,5 +1,6 @@
--- One step for each method of `Reader`: what a call of it does, in a walk whose context begins with the lifetime's token and what the slice owns, and is the same after the call.
--- A reader's machine value is known from the slice and the position, so no reader's own is carried: it is made for each call of a copy of the slice's.
+-- One step for each method of `Reader`: what a call of it does, in a walk whose context begins with the lifetime's token and what the slice owns, and is the
+-- same after the call. A reader's machine value is known from the slice and the position, so no reader's own is carried: it is made for each call of a copy
+-- of the slice's.
 use mathlib.Core.Path.{_≡_, refl, sym, ap, subst, _∙_}
 use Prim.Native.Nat.{ℕ, _+_, _<_, _≤_, _^_}
 use native.Mathlib.Omega.{arith}

@@ -1,4 +1,5 @@
--- When the table of least delays is given and what its elements mean, as statements. proofs/Meanings.antt proves them, proofs/Lists.antt those of the lent list.
+-- When the table of least delays is given and what its elements mean, as statements. proofs/Meanings.antt proves them, proofs/Lists.antt those of the lent
+-- list.
 use mathlib.Core.Path.{_≡_}
 use mathlib.Core.Logic.{_↔_, _≢_}
 use mathlib.Core.List.{List}

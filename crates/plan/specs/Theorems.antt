@@ -1,4 +1,5 @@
--- When the plan is given, what the call leaves in the lent list, and that what it writes and tells is the plan, as statements. proofs/Meanings.antt proves them.
+-- When the plan is given, what the call leaves in the lent list, and that what it writes and tells is the plan, as statements. proofs/Meanings.antt proves
+-- them.
 use mathlib.Core.Path.{_≡_}
 use mathlib.Core.Logic.{_↔_, _≢_}
 use mathlib.Core.List.{List}

@@ -54,12 +54,12 @@ present-more t (x ∷ es) e = go (t x) (present-more t es e)
 -- ── One edge after the other ──
 
 -- the words after j edges
-pub record Taken (source sink : List ℕ) (j : ℕ) (words : List ℕ) : Type 0 where
+pub record EdgesTaken (source sink : List ℕ) (j : ℕ) (words : List ℕ) : Type 0 where
   pub room : length words ≡ 16
   pub edges :
       (delay : List ℕ) (a b : ℕ) → a < 16 → bitIn words a b ≡ present (shortest (keep (joins a b) (tabulate j (heldEdge source sink delay))))
 
-pub taken-none : (source sink words : List ℕ) → words ≡ replicate 16 0 → Taken source sink 0 words
+pub taken-none : (source sink words : List ℕ) → words ≡ replicate 16 0 → EdgesTaken source sink 0 words
 unfolding tabulate keep shortest present
 taken-none source sink words blank = record {
   room = ap length blank ∙ length-replicate {A = ℕ} 16 0;
@@ -85,8 +85,8 @@ edge-stored words from to word a b inside stored = go (cases (eqb from a))
         sym (ap (λ (x : Bool). bitIn words a b || (x && eqb to b)) (is-false (eqb from a) n) ∙ or-false (bitIn words a b))
 
 pub taken-more :
-    (source sink : List ℕ) (j word : ℕ) {words words′ : List ℕ} → Taken source sink j words → words′ ≡ set words (getD source j 0) word
-    → getD source j 0 < 16 → ((b : ℕ) → bit word b ≡ bitIn words (getD source j 0) b || eqb (getD sink j 0) b) → Taken source sink (j + 1) words′
+    (source sink : List ℕ) (j word : ℕ) {words words′ : List ℕ} → EdgesTaken source sink j words → words′ ≡ set words (getD source j 0) word
+    → getD source j 0 < 16 → ((b : ℕ) → bit word b ≡ bitIn words (getD source j 0) b || eqb (getD sink j 0) b) → EdgesTaken source sink (j + 1) words′
 unfolding tabulate joins heldEdge
 taken-more source sink j word {words} {words′} done is inside stored = record {
   room = ap length is ∙ (length-set words (getD source j 0) word ∙ done .room);
@@ -102,7 +102,7 @@ taken-more source sink j word {words} {words′} done is inside stored = record 
 }
 
 pub taken-all :
-    (source sink : List ℕ) (j n : ℕ) {words : List ℕ} → Taken source sink j words → length source ≡ j → n ≤ 16 → (delay : List ℕ)
+    (source sink : List ℕ) (j n : ℕ) {words : List ℕ} → EdgesTaken source sink j words → length source ≡ j → n ≤ 16 → (delay : List ℕ)
     → ReachesThrough 0 n (edgesOf source sink delay) words
 unfolding through edgesOf
 taken-all source sink j n done whole few delay = record {

@@ -309,8 +309,8 @@ fn shift_edges<'a>(
     }
 }
 
-// Adds the pair (a, b) to delays and counts of a stage: what the pair subsumes is dropped, delays fall to the way to a and the way from b on, and the pair's own
-// edge is counted last.
+// Adds the pair (a, b) to delays and counts of a stage: what the pair subsumes is dropped, delays fall to the way to a and the way from b on, and the pair's
+// own edge is counted last.
 pub fn add_pair<'a, 'b>(
     source: &'a [u8],
     sink: &'a [u8],

@@ -1,5 +1,5 @@
--- Document 01, "What the calls hand over" and "Who caused a refusal": what the timetable's call answers and leaves in the lent list, for every file, number of turns and list. Of a refused call every field
--- that 01 does not name is 0, and the list keeps its contents.
+-- Document 01, "What the calls hand over" and "Who caused a refusal": what the timetable's call answers and leaves in the lent list, for every file, number
+-- of turns and list. Of a refused call every field that 01 does not name is 0, and the list keeps its contents.
 use mathlib.Core.Bool.{_||_}
 use mathlib.Core.List.{List, [], _∷_, _++_}
 use Prim.Native.Nat.{ℕ, _*_}

@@ -1,6 +1,7 @@
 //! The calls as C has them: the records of `include/resync.h`, and the six functions behind safe ones that pass whole answers on.
 //!
-//! Nothing checks these declarations against the library but the tests: keep them as its source and `include/resync.h` have them.
+//! Nothing checks these declarations against the library but the tests, the sequence of the records' fields among it: keep them as its
+//! source and `include/resync.h` have them.
 
 use std::mem::{align_of, size_of};
 

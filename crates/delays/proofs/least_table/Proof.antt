@@ -1,4 +1,5 @@
--- `delays::least_table` meets its contract: after each turn of the loop the rows from the last down to this task's are final, and the rest of the list is as it was.
+-- `delays::least_table` meets its contract: after each turn of the loop the rows from the last down to this task's are final, and the rest of the list is as
+-- it was.
 use mathlib.Core.Path.{_≡_, refl, sym, ap, _∙_}
 use mathlib.Core.List.{List}
 use Prim.Native.Nat.{ℕ, suc, _-_, _≤_, _<_}

@@ -4,12 +4,12 @@ use Prim.Native.Nat.{ℕ, _-_, _≤_}
 use native.Mathlib.Omega.{arith}
 use borrow.Author.Needs.{needs}
 use lib.ListN.{length, length-replicate}
-use Rattle.delays.proofs.Steps.{fit-at, Taken, none-taken, one-taken, all-taken}
+use Rattle.delays.proofs.Steps.{fit-at, StepsTaken, none-taken, one-taken, all-taken}
 use Rattle.delays.proofs.take_steps.Statement.{statement}
 use Rattle.delays.proofs.take_steps.Tie as tie
 
 abbrev Inv-loop : tie.InvT-loop
-Inv-loop source sink delay square₀ j₀ square j = (j ≤ length source) × Taken source sink delay j square
+Inv-loop source sink delay square₀ j₀ square j = (j ≤ length source) × StepsTaken source sink delay j square
 
 abbrev μ-loop : tie.MeasureT-loop
 μ-loop source sink delay square₀ j₀ square j = length source - j

@@ -1,4 +1,5 @@
--- `marks::next_bit` meets its contract: the mask leaves the bits from `from` on (`masked`), and their leading zeros are the place of the first set (`first-bit`).
+-- `marks::next_bit` meets its contract: the mask leaves the bits from `from` on (`masked`), and their leading zeros are the place of the first set
+-- (`first-bit`).
 use mathlib.Core.Path.{ap}
 use native.Mathlib.Omega.{arith}
 use lib.Count.{leadingZeros}

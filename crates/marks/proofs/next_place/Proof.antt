@@ -1,5 +1,5 @@
--- `marks::next_place` meets its contract: no mark from `after` up to the bit where the search stands is set, and `next_bit` moves on to the first set bit of the
--- word, or to the next word.
+-- `marks::next_place` meets its contract: no mark from `after` up to the bit where the search stands is set, and `next_bit` moves on to the first set bit of
+-- the word, or to the next word.
 use mathlib.Core.Path.{_≡_, ap, _∙_}
 use mathlib.Core.Bool.{false}
 use Prim.Native.Nat.{ℕ, _+_, _-_, _*_, _≤_, _<_}

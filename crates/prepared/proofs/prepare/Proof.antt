@@ -1,5 +1,5 @@
--- `prepared::prepare` meets its contract: the graph's table with 0 on its diagonal is spread by rows and by columns, and the edges of the first stage are counted
--- by the delays so made.
+-- `prepared::prepare` meets its contract: the graph's table with 0 on its diagonal is spread by rows and by columns, and the edges of the first stage are
+-- counted by the delays so made.
 use native.Mathlib.Omega.{arith}
 use Prim.Native.Nat.{ℕ, _-_, _*_}
 use borrow.Rule.Slice.PartMut.{same-len-mid}

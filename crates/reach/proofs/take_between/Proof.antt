@@ -7,13 +7,13 @@ use lib.Dec.{eqb}
 use lib.ListN.{length, getD, set, length-replicate}
 use Rattle.records.specs.Columns.{at}
 use Rattle.reach.specs.Reach.{bitIn, processorsOf}
-use Rattle.reach.proofs.Rounds.{Taken, taken-none, taken-more, taken-all}
+use Rattle.reach.proofs.Rounds.{EdgesTaken, taken-none, taken-more, taken-all}
 use Rattle.reach.proofs.Processors.{looked-up, as-many-processors}
 use Rattle.reach.proofs.take_between.Statement.{statement}
 use Rattle.reach.proofs.take_between.Tie as tie
 
 abbrev Inv-loop : tie.InvT-loop
-Inv-loop source sink processor words₀ j₀ words j = (j ≤ length source) × Taken (processorsOf processor source) (processorsOf processor sink) j words
+Inv-loop source sink processor words₀ j₀ words j = (j ≤ length source) × EdgesTaken (processorsOf processor source) (processorsOf processor sink) j words
 
 abbrev μ-loop : tie.MeasureT-loop
 μ-loop source sink processor words₀ j₀ words j = length source - j

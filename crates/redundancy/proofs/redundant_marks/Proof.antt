@@ -1,4 +1,5 @@
--- `redundancy::redundant_marks` meets its contract: the last steps are taken into a square with room for 64 tasks, then four words of 64 marks each are made by it.
+-- `redundancy::redundant_marks` meets its contract: the last steps are taken into a square with room for 64 tasks, then four words of 64 marks each are made
+-- by it.
 use mathlib.Core.Path.{refl, sym, _∙_}
 use mathlib.Core.List.{[], _∷_}
 use native.Mathlib.Omega.{arith}

@@ -1,4 +1,5 @@
--- `subsumption::add_pair` meets its contract: the edges that stay are counted by the delays as they fall, then the delays fall so, and the pair's edge comes last.
+-- `subsumption::add_pair` meets its contract: the edges that stay are counted by the delays as they fall, then the delays fall so, and the pair's edge comes
+-- last.
 use mathlib.Core.Bool.{not}
 use native.Mathlib.Omega.{arith}
 use borrow.Author.Needs.{needs}

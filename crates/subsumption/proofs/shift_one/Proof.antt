@@ -1,5 +1,5 @@
--- `subsumption::shift_one` meets its contract: the edge is counted by the rows of its source and sink as they fall, and where none of their numbers falls to its own
--- delay, its shares stay.
+-- `subsumption::shift_one` meets its contract: the edge is counted by the rows of its source and sink as they fall, and where none of their numbers falls to
+-- its own delay, its shares stay.
 use mathlib.Core.Path.{sym, _∙_}
 use mathlib.Core.Bool.{not}
 use Prim.Native.Nat.{_+_, _*_, _≤_}

@@ -9,17 +9,17 @@ use borrow.Author.Needs.{needs}
 use Rattle.model.specs.Tasks.{Edge}
 use Rattle.files.specs.Refusals.{notRefused}
 use Rattle.files.specs.Files.{repeatRefusal}
-use Rattle.files.specs.Marks.{Marked}
+use Rattle.files.specs.Repeated.{SeenBefore}
 use Rattle.records.specs.Columns.{SourcesOf, SinksOf, DelaysOf}
 use Rattle.files.proofs.First.{stops-at, stops-nowhere}
 use Rattle.files.proofs.Repeats.{repeat-stops, repeat-passes}
-use Rattle.files.proofs.Marks.{marked-none}
+use Rattle.files.proofs.Repeated.{marked-none}
 use Rattle.files.proofs.checks.repeats_refusal.Statement.{statement}
 use Rattle.files.proofs.checks.repeats_refusal.Tie as tie
 
 abbrev Inv-loop : tie.InvT-loop
 Inv-loop source sink delay seen₀ j₀ seen j =
-    (j ≤ length source) × Marked source sink delay j seen ×
+    (j ≤ length source) × SeenBefore source sink delay j seen ×
     ((es : List Edge) → SourcesOf es source → SinksOf es sink → DelaysOf es delay → (i : ℕ) → i < j → repeatRefusal es i ≡ notRefused)
 
 abbrev μ-loop : tie.MeasureT-loop
@@ -28,11 +28,11 @@ abbrev μ-loop : tie.MeasureT-loop
 loop-holds : tie.Need-loop-holds Inv-loop μ-loop
 loop-holds c = (omega arith, marked-none _ _ _ refl, λ es from to turns. below-none (λ i. repeatRefusal es i ≡ notRefused))
 
-slice-aggregate-repeats-marked : tie.Need-slice-aggregate-repeats-marked Inv-loop μ-loop
-slice-aggregate-repeats-marked c = search needs
+slice-aggregate-repeats-seen : tie.Need-slice-aggregate-repeats-seen Inv-loop μ-loop
+slice-aggregate-repeats-seen c = search needs
 
-repeats-marked-requires : tie.Need-repeats-marked-requires Inv-loop μ-loop
-repeats-marked-requires c κs =
+repeats-seen-requires : tie.Need-repeats-seen-requires Inv-loop μ-loop
+repeats-seen-requires c κs =
     let asked = c .before .before .before .before .before .before .pre in
     (c .before .loop-test .taken, (asked .1 .0, (asked .1 .1, c .before .before .loop .inv .1)))
 
@@ -49,7 +49,7 @@ returns c =
     sym
     (stops-at (length es) (repeatRefusal es) (subst (λ (m : ℕ). j < m) (from .as-many) (c .before .before .before .before .loop-test .taken))
     (c .before .before .before .before .before .loop .inv .2 es from to turns)
-    (repeat-stops es j (sym (c .before .before .repeats-marked .ensures .0 es from to turns) ∙ c .if1 .taken))
+    (repeat-stops es j (sym (c .before .before .repeats-seen .ensures .0 es from to turns) ∙ c .if1 .taken))
     (λ z. omega arith))
 
 add-j : tie.Need-add-j Inv-loop μ-loop
@@ -62,10 +62,10 @@ loop-again : tie.Need-loop-again Inv-loop μ-loop
 loop-again c =
     let j = c .before .before .before .before .before .loop .j in (
       omega arith,
-      c .before .before .repeats-marked .ensures .1,
+      c .before .before .repeats-seen .ensures .1,
       λ es from to turns.
           below-more (λ i. repeatRefusal es i ≡ notRefused) j (c .before .before .before .before .before .loop .inv .2 es from to turns)
-          (repeat-passes es j (sym (c .before .before .repeats-marked .ensures .0 es from to turns) ∙ c .if1 .left)),
+          (repeat-passes es j (sym (c .before .before .repeats-seen .ensures .0 es from to turns) ∙ c .if1 .left)),
     )
 
 returns-2 : tie.Need-returns-2 Inv-loop μ-loop
@@ -82,8 +82,8 @@ repeats-refusal-spec =
     Inv-loop
     μ-loop
     loop-holds
-    slice-aggregate-repeats-marked
-    repeats-marked-requires
+    slice-aggregate-repeats-seen
+    repeats-seen-requires
     cast-t11
     add-t12
     returns

@@ -1,5 +1,6 @@
--- `Reader::field` meets its contract, by a walk of its MIR: the struct is taken apart, and `field_at` is called on its slice, its position and the width. Of `field_at` the proof knows its contract alone.
--- The struct is Copy: one copy of what it owns is kept for the exit, and of the other what the slice owns goes to the callee, beside the lifetime's token, which comes back.
+-- `Reader::field` meets its contract, by a walk of its MIR: the struct is taken apart, and `field_at` is called on its slice, its position and the width. Of
+-- `field_at` the proof knows its contract alone. The struct is Copy: one copy of what it owns is kept for the exit, and of the other what the slice owns goes
+-- to the callee, beside the lifetime's token, which comes back.
 use mathlib.Core.Path.{_≡_, refl}
 use Prim.Native.Nat.{ℕ, _<_, _≤_, _^_}
 use mathlib.Core.List.{[], _∷_}

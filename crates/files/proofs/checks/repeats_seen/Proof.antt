@@ -1,10 +1,10 @@
--- `files::checks::repeats_marked` meets its contract: an edge whose place is not marked repeats no earlier one, and of any other the earlier ones are
+-- `files::checks::repeats_seen` meets its contract: an edge whose place is not marked repeats no earlier one, and of any other the earlier ones are
 -- compared; the place is marked in each case.
 use mathlib.Core.Path.{sym}
 use borrow.Author.Needs.{needs}
-use Rattle.files.proofs.Marks.{marked-before, marked-now, not-marked}
-use Rattle.files.proofs.checks.repeats_marked.Statement.{statement}
-use Rattle.files.proofs.checks.repeats_marked.Tie as tie
+use Rattle.files.proofs.Repeated.{marked-before, marked-now, not-marked}
+use Rattle.files.proofs.checks.repeats_seen.Statement.{statement}
+use Rattle.files.proofs.checks.repeats_seen.Tie as tie
 
 shared-slice-read-edge-place : tie.Need-shared-slice-read-edge-place
 shared-slice-read-edge-place c = search needs
@@ -39,8 +39,8 @@ repeats-earlier-requires c κs = search needs
 returns-2 : tie.Need-returns-2
 returns-2 c = (c .repeats-earlier .ensures, marked-before (c .before .before .before .before .before .before .before .before .before .before .before .pre .1 .1 .1) (c .before .before .before .edge-place .ensures) (c .before .if1 .left))
 
-pub repeats-marked-spec : {M : Type 1} → statement M
-repeats-marked-spec =
+pub repeats-seen-spec : {M : Type 1} → statement M
+repeats-seen-spec =
     tie.close
     (tie.spec
     shared-slice-read-edge-place

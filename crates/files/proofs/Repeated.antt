@@ -13,7 +13,7 @@ use Rattle.model.specs.Tasks.{Edge}
 use Rattle.model.proofs.Tests.{decided, decides-no, eqb-decides}
 use Rattle.records.specs.Columns.{SourcesOf, SinksOf, DelaysOf}
 use Rattle.files.specs.Files.{edgeIn, repeatsEarlier}
-use Rattle.files.specs.Marks.{edgePlace, Marked}
+use Rattle.files.specs.Repeated.{edgePlace, SeenBefore}
 use Rattle.files.proofs.Repeats.{repeats-earlier-is}
 
 -- the place of edge i, and that it is marked
@@ -23,17 +23,17 @@ placeOf source sink delay i = edgePlace (getD source i 0) (getD sink i 0) (getD 
 abbrev Has : List ℕ → List ℕ → List ℕ → List ℕ → ℕ → Type 0
 Has source sink delay seen i = getD seen (placeOf source sink delay i) 0 ≢ 0
 
-pub marked-none : (source sink delay : List ℕ) {seen : List ℕ} → length seen ≡ 4096 → Marked source sink delay 0 seen
+pub marked-none : (source sink delay : List ℕ) {seen : List ℕ} → length seen ≡ 4096 → SeenBefore source sink delay 0 seen
 marked-none source sink delay {seen} room = record { room = room; each = below-none (Has source sink delay seen) }
 
-module _ {source sink delay : List ℕ} {j : ℕ} {seen : List ℕ} (marked : Marked source sink delay j seen) {place : ℕ} (is : place ≡ placeOf source sink delay j) where
-  pub marked-before : getD seen place 0 ≢ 0 → Marked source sink delay (j + 1) seen
+module _ {source sink delay : List ℕ} {j : ℕ} {seen : List ℕ} (marked : SeenBefore source sink delay j seen) {place : ℕ} (is : place ≡ placeOf source sink delay j) where
+  pub marked-before : getD seen place 0 ≢ 0 → SeenBefore source sink delay (j + 1) seen
   marked-before some = record {
     room = marked .room;
     each = below-more (Has source sink delay seen) j (marked .each) (subst (λ (p : ℕ). getD seen p 0 ≢ 0) is some);
   }
 
-  pub marked-now : Marked source sink delay (j + 1) (set seen place 1)
+  pub marked-now : SeenBefore source sink delay (j + 1) (set seen place 1)
   marked-now = record {
     room = simp length-set (marked .room);
     each = below-more (Has source sink delay (set seen place 1)) j

@@ -10,6 +10,6 @@ abbrev pub edgePlace : ℕ → ℕ → ℕ → ℕ
 edgePlace source sink delay = (source * 64 + sink + delay * 1657) % 4096
 
 -- The places of the first j edges that the lists hold are marked.
-pub record Marked (source sink delay : List ℕ) (j : ℕ) (seen : List ℕ) : Type 0 where
+pub record SeenBefore (source sink delay : List ℕ) (j : ℕ) (seen : List ℕ) : Type 0 where
   pub room : length seen ≡ 4096
   pub each : (i : ℕ) → i < j → getD seen (edgePlace (getD source i 0) (getD sink i 0) (getD delay i 0)) 0 ≢ 0
