@@ -12,10 +12,10 @@ use Rattle.layout.specs.declared.EdgeRecord.{EdgeRecord}
 use Rattle.files.specs.declared.Refusal.{Refusal}
 use Rattle.files.specs.Files.{graphOf}
 use Rattle.files.specs.Refusals.{first, ifPassed}
-use Rattle.results.specs.Fronts.{HeldFront}
 use Rattle.acceptance.specs.Acceptance.{acceptanceRefusal}
 use Rattle.acceptance.specs.Outcomes.{outcome, roomRefusal}
 use Rattle.stages.specs.Stages.{writtenInto}
+use Rattle.steps.specs.Steps.{Followed}
 use Rattle.plan.specs.declared.GraphPlan.{GraphPlan}
 use Rattle.plan.specs.declared.PlanAnswer.{PlanAnswer}
 
@@ -40,8 +40,7 @@ plannedEdges s room = ifPassed (planRefusal s room .number) (planOf (graphOf s) 
 unfoldable pub planAfter : List ℕ → List EdgeRecord → List EdgeRecord
 planAfter s edges = ifPassed (planRefusal s (length edges) .number) (writtenInto edges (planOf (graphOf s) .list)) edges
 
--- Only for contracts inside: what is found is the plan of a graph.
-pub record PlanFound (g : Graph) (r : GraphPlan) : Type 0 where
-  pub steps : r .steps ≡ planOf g .steps
-  pub latency : r .latency ≡ planLatency g
-  pub held : HeldFront 256 (r .stage .count) (r .stage .source) (r .stage .sink) (r .stage .delay) (planOf g .list)
+-- Only for contracts inside: what is found is the plan of a graph, to which all steps lead.
+abbrev pub PlanFound : Graph → GraphPlan → Type 0
+PlanFound g r =
+    Followed g (record { count = r .stage .count; steps = r .steps; latency = r .latency }) (r .stage .source) (r .stage .sink) (r .stage .delay)
