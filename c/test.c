@@ -256,9 +256,8 @@ static void example_verdicts(void)
     file empty = proposal_file(&none);
     file first_only = proposal_of_one(0, 2, 0);
     file delayed = proposal_of_one(1, 2, 1);
-    proposal back = proposal_of_none();
+    proposal back = proposal_of_none(), mixed = proposal_of_none();
     file cyclic;
-    resync_verdict_answer a;
 
     accepted_proposal(__LINE__, &at_12, &p, 10, 2);
     accepted_proposal(__LINE__, &at_10, &p, 10, 0);
@@ -273,10 +272,13 @@ static void example_verdicts(void)
     propose(&back, 1, 3, 0);
     propose(&back, 3, 0, 1);
     cyclic = proposal_file(&back);
-    a = verdict_of(&at_12, &cyclic);
-    CHECK(a.refusal.place >= 1 && a.refusal.place <= 3);
-    CHECK(is_refusal(a.refusal, 13, a.refusal.place, 0, 0));
-    CHECK(a.latency == 0 && a.margin == 0);
+    refused_proposal(__LINE__, &at_12, &cyclic, 13, 1);
+    propose(&mixed, 0, 2, 0);
+    propose(&mixed, 2, 3, 0); /* within a processor, and so on a cycle */
+    propose(&mixed, 1, 3, 0);
+    propose(&mixed, 0, 1, 1); /* this too */
+    cyclic = proposal_file(&mixed);
+    refused_proposal(__LINE__, &at_12, &cyclic, 13, 2);
 }
 
 static void example_plans(void)

@@ -27,7 +27,7 @@
  *     11    latency input and output are one, or no path of delay 0 joins them    0
  *     12    the bound is below the graph's latency                                0
  *   by whoever made the proposal:
- *     13    a proposed edge on a cycle of the result                              one such proposed edge, from 1: which is open
+ *     13    a proposed edge on a cycle of the result                              the first such proposed edge, from 1
  *     14    an order of the original lost                                         the first such graph edge, from 1
  *     15    late: the result's latency is above the bound                         0
  *   by the calling program:

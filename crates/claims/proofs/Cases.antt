@@ -1,12 +1,11 @@
 -- The example desk's cases, by computation: what each file holds, that its checks pass, and what the numbers are, each as a small equation; the answers
 -- are put together from these.
 use mathlib.Core.Path.{_≡_, refl, sym, ap, _∙_, subst}
-use mathlib.Core.Logic.{_≢_}
 use mathlib.Core.Bool.{Bool}
-use mathlib.Core.List.{List, [], _∷_, _++_, List·Memᴰ, List·Memᴰ·head as here, List·Memᴰ·tail as there, List·Memᴰ·not-nil}
-use Prim.Native.Nat.{ℕ, zero, suc, _*_, _≤_, _<_}
+use mathlib.Core.List.{List, [], _∷_, _++_, List·Memᴰ, List·Memᴰ·head as here, List·Memᴰ·tail as there}
+use Prim.Native.Nat.{ℕ, _*_, _≤_}
 use native.Mathlib.Omega.{arith}
-use lib.Dec.{ltb, lit<}
+use lib.Dec.{ltb}
 use lib.IntN.{pos, negsuc}
 use lib.ListN.{length, drop, getD}
 use Rattle.model.specs.Lists.{tabulate, anyBelow, counted}
@@ -18,7 +17,7 @@ use Rattle.model.specs.Compute.{leastDelay, isRedundant, sameEdge, zeroCycle, i
 use Rattle.model.specs.Proposals.{result}
 use Rattle.model.specs.Plan.{Planned, planOf, planLatency}
 use Rattle.model.specs.Example.{deskBound, looped as loopedEdges}
-use Rattle.model.proofs.Example.{desk-on-cycle, desk-plan, desk-plan-at-nine}
+use Rattle.model.proofs.Example.{desk-plan, desk-plan-at-nine}
 use Rattle.bits.specs.Bits.{bitAt, field}
 use Rattle.layout.specs.Layout.{graphHeader, proposalHeader, taskAt, edgeAt, filling}
 use Rattle.records.specs.Columns.{rows}
@@ -38,13 +37,13 @@ use Rattle.least_delays.proofs.Meanings.{delays-given, delays-plain}
 use Rattle.redundant.specs.Redundant.{noMarks, redundantOf}
 use Rattle.timetable.specs.Timetable.{startsOf, timetableRefusal, timetableAfter}
 use Rattle.timetable.proofs.Given.{timetable-given, timetable-plain}
-use Rattle.judgement.specs.Judgement.{someOnCycle, lostRefusal, judgedRefusal, OpenPlace}
+use Rattle.judgement.specs.Judgement.{cycleRefusal, lostRefusal, judgedRefusal}
 use Rattle.verdict.specs.declared.ProposalVerdict.{ProposalVerdict}
-use Rattle.verdict.specs.Verdict.{VerdictAnswer, verdictOf, verdictRefusal, toldLate, countedMargin, margin, resultLatency}
+use Rattle.verdict.specs.Verdict.{verdictOf, verdictRefusal, toldLate, countedMargin, margin, resultLatency}
 use Rattle.stages.specs.Stages.{writtenInto}
 use Rattle.plan.specs.Plan.{planRefusal, planAnswerOf, planAfter}
 use Rattle.plan.proofs.Meanings.{plan-given, plan-plain}
-use Rattle.claims.specs.Cases.{Case, delays, first-word, starts, plan, verdict, on-cycle, accepted, refused, Holds, deskFile, exampleFile, exampleProposal, emptyProposal, firstOnly, delayed, loopedFile, cases, AllHold}
+use Rattle.claims.specs.Cases.{Case, delays, first-word, starts, plan, verdict, accepted, refused, Holds, deskFile, exampleFile, exampleProposal, emptyProposal, firstOnly, delayed, loopedFile, mixedFile, cases, AllHold}
 
 -- ── The graph files ──
 
@@ -142,7 +141,7 @@ marks-hold = (ap outcome desk-passes, λ i. getD (ifPassed (desk-passes i .numbe
 
 -- ── The proposal files ──
 
--- 1→2; 0→2; 1→2 with delay 1
+-- 1→2; 0→2; 1→2 with delay 1; 0→2, 2→3, 1→3, and 0→1 with delay 1
 abbrev example : List Edge
 example = edge 1 2 0 ∷ []
 
@@ -152,27 +151,29 @@ onlyFirst = edge 0 2 0 ∷ []
 abbrev withDelay : List Edge
 withDelay = edge 1 2 1 ∷ []
 
+abbrev mixed : List Edge
+mixed = edge 0 2 0 ∷ edge 2 3 0 ∷ edge 1 3 0 ∷ edge 0 1 1 ∷ []
+
 proposals-read :
     (proposalOf exampleProposal ≡ example) × (proposalOf emptyProposal ≡ []) × (proposalOf firstOnly ≡ onlyFirst) × (proposalOf delayed ≡ withDelay) ×
-    (proposalOf loopedFile ≡ loopedEdges)
+    (proposalOf loopedFile ≡ loopedEdges) × (proposalOf mixedFile ≡ mixed)
 unfolding proposalOf edgesFrom proposalHeader edgeAt tabulate field bitAt
-proposals-read = (refl, refl, refl, refl, refl)
+proposals-read = (refl, refl, refl, refl, refl, refl)
 
 proposals-formed :
     (proposalRefusal 4 exampleProposal ≡ notRefused) × (proposalRefusal 4 emptyProposal ≡ notRefused) × (proposalRefusal 4 firstOnly ≡ notRefused) ×
-    (proposalRefusal 4 delayed ≡ notRefused) × (proposalRefusal 4 loopedFile ≡ notRefused)
+    (proposalRefusal 4 delayed ≡ notRefused) × (proposalRefusal 4 loopedFile ≡ notRefused) × (proposalRefusal 4 mixedFile ≡ notRefused)
 unfolding proposalRefusal proposalFrameRefusal proposalHeaderRefusal lengthRefusal zerosRefusal fillingRefusal filling proposedEdgesRefusal firstOf first choose refuse
     endsRefusal endOutside repeatRefusal repeatsEarlier anyBelow sameEdge edgeIn proposalBits proposalOf edgesFrom proposalHeader edgeAt tabulate field bitAt
-proposals-formed = (refl, refl, refl, refl, refl)
+proposals-formed = (refl, refl, refl, refl, refl, refl)
 
 -- what each gets of 13 to 15
 example-judged :
-    (place : ℕ) →
-    (judgedRefusal (deskBound 12) example place ≡ notRefused) × (judgedRefusal (deskBound 10) example place ≡ notRefused) ×
-    (judgedRefusal (deskBound 9) example place ≡ record { number = 15; place = 0 })
-unfolding judgedRefusal someOnCycle lostRefusal firstOf first choose refuse tabulate anyBelow edgeIn syncAt onCycle orderHolds latencyOf result edges
+    (judgedRefusal (deskBound 12) example ≡ notRefused) × (judgedRefusal (deskBound 10) example ≡ notRefused) ×
+    (judgedRefusal (deskBound 9) example ≡ record { number = 15; place = 0 })
+unfolding judgedRefusal cycleRefusal lostRefusal firstOf first choose refuse tabulate edgeIn syncAt onCycle orderHolds latencyOf result edges
     processorEdges timeOf
-example-judged place = (refl, refl, refl)
+example-judged = (refl, refl, refl)
 
 example-latency :
     (latencyOf (result (deskBound 12) example) ≡ 10) × (latencyOf (result (deskBound 10) example) ≡ 10) × (latencyOf (result (deskBound 9) example) ≡ 10)
@@ -180,14 +181,14 @@ unfolding latencyOf result edges processorEdges timeOf
 example-latency = (refl, refl, refl)
 
 others-judged :
-    (place : ℕ) →
-    (judgedRefusal (deskBound 12) [] place ≡ record { number = 14; place = 1 }) ×
-    (judgedRefusal (deskBound 12) onlyFirst place ≡ record { number = 14; place = 2 }) ×
-    (judgedRefusal (deskBound 12) withDelay place ≡ record { number = 14; place = 1 }) ×
-    (judgedRefusal (deskBound 12) loopedEdges place ≡ record { number = 13; place = place })
-unfolding judgedRefusal someOnCycle lostRefusal firstOf first choose refuse tabulate anyBelow edgeIn syncAt onCycle orderHolds latencyOf result edges
+    (judgedRefusal (deskBound 12) [] ≡ record { number = 14; place = 1 }) ×
+    (judgedRefusal (deskBound 12) onlyFirst ≡ record { number = 14; place = 2 }) ×
+    (judgedRefusal (deskBound 12) withDelay ≡ record { number = 14; place = 1 }) ×
+    (judgedRefusal (deskBound 12) loopedEdges ≡ record { number = 13; place = 1 }) ×
+    (judgedRefusal (deskBound 12) mixed ≡ record { number = 13; place = 2 })
+unfolding judgedRefusal cycleRefusal lostRefusal firstOf first choose refuse tabulate edgeIn syncAt onCycle orderHolds latencyOf result edges
     processorEdges timeOf
-others-judged place = (refl, refl, refl, refl)
+others-judged = (refl, refl, refl, refl, refl)
 
 -- ── Verdicts ──
 
@@ -201,134 +202,73 @@ put graph proposal judged bound late =
     }
 
 verdict-put :
-    (s p : List ℕ) (place : ℕ) →
-    verdictOf s p place ≡
-    put (acceptanceRefusal s) (proposalRefusal (tasksOf s) p) (judgedRefusal (graphOf s) (proposalOf p) place) (graphOf s .bound) (resultLatency s p)
+    (s p : List ℕ) →
+    verdictOf s p ≡ put (acceptanceRefusal s) (proposalRefusal (tasksOf s) p) (judgedRefusal (graphOf s) (proposalOf p)) (graphOf s .bound) (resultLatency s p)
 unfolding verdictOf verdictRefusal put
-verdict-put s p place = refl
+verdict-put s p = refl
 
 -- the verdict on a well-formed proposal beside an accepted desk
 desk-verdict :
     (s p : List ℕ) {l : ℕ} {es : List Edge} → graphOf s ≡ deskBound l → acceptanceRefusal s ≡ notRefused → proposalOf p ≡ es →
-    proposalRefusal 4 p ≡ notRefused → (place : ℕ) {q : Refusal} → judgedRefusal (deskBound l) es place ≡ q →
-    verdictOf s p place ≡ put notRefused notRefused q l (latencyOf (result (deskBound l) es))
+    proposalRefusal 4 p ≡ notRefused → {q : Refusal} → judgedRefusal (deskBound l) es ≡ q →
+    verdictOf s p ≡ put notRefused notRefused q l (latencyOf (result (deskBound l) es))
 unfolding tasksOf resultLatency
-desk-verdict s p {l} {es} read passes edges-read formed place judged =
-    verdict-put s p place ∙
+desk-verdict s p read passes edges-read formed judged =
+    verdict-put s p ∙
     (λ i.
-    put (passes i) ((ap (λ (g : Graph). proposalRefusal (count g) p) read ∙ formed) i)
-    (((λ j. judgedRefusal (read j) (edges-read j) place) ∙ judged) i)
+    put (passes i) ((ap (λ (g : Graph). proposalRefusal (count g) p) read ∙ formed) i) (((λ j. judgedRefusal (read j) (edges-read j)) ∙ judged) i)
     (read i .bound) (latencyOf (result (read i) (edges-read i))))
-
--- one answer whatever the place: the contract allows it alone
-only-answer :
-    (s p : List ℕ) (answer : ProposalVerdict) → answer .outcome .number ≢ 13 → ((place : ℕ) → verdictOf s p place ≡ answer) → Holds (verdict s p answer)
-only-answer s p answer other always r = (
-  λ h. h .settled ∙ always (r .outcome .place),
-  λ is.
-      record {
-        settled = is ∙ sym (always (r .outcome .place));
-        left-open = λ thirteen. absurd (other (sym (ap (λ (x : ProposalVerdict). x .outcome .number) is) ∙ thirteen));
-      },
-)
 
 example-12 : Holds (verdict exampleFile exampleProposal (accepted 10 (pos 2)))
 unfolding put toldLate first choose ifPassed counted countedMargin margin
 example-12 =
-    only-answer exampleFile exampleProposal (accepted 10 (pos 2)) (λ z. omega arith)
-    (λ place.
-    desk-verdict exampleFile exampleProposal desk-is desk-passes (proposals-read .0) (proposals-formed .0) place (example-judged place .0) ∙
-    ap (put notRefused notRefused notRefused 12) (example-latency .0))
+    desk-verdict exampleFile exampleProposal desk-is desk-passes (proposals-read .0) (proposals-formed .0) (example-judged .0) ∙
+    ap (put notRefused notRefused notRefused 12) (example-latency .0)
 
 example-10 : Holds (verdict (deskFile 10) exampleProposal (accepted 10 (pos 0)))
 unfolding put toldLate first choose ifPassed counted countedMargin margin
 example-10 =
-    only-answer (deskFile 10) exampleProposal (accepted 10 (pos 0)) (λ z. omega arith)
-    (λ place.
-    desk-verdict (deskFile 10) exampleProposal desk-10-is desk-10-passes (proposals-read .0) (proposals-formed .0) place (example-judged place .1) ∙
-    ap (put notRefused notRefused notRefused 10) (example-latency .1))
+    desk-verdict (deskFile 10) exampleProposal desk-10-is desk-10-passes (proposals-read .0) (proposals-formed .0) (example-judged .1) ∙
+    ap (put notRefused notRefused notRefused 10) (example-latency .1)
 
 example-9 : Holds (verdict (deskFile 9) exampleProposal (refused 15 0 10 (negsuc 0)))
 unfolding put toldLate first choose ifPassed counted countedMargin margin
 example-9 =
-    only-answer (deskFile 9) exampleProposal (refused 15 0 10 (negsuc 0)) (λ z. omega arith)
-    (λ place.
-    desk-verdict (deskFile 9) exampleProposal desk-9-is desk-9-passes (proposals-read .0) (proposals-formed .0) place (example-judged place .2) ∙
-    ap (put notRefused notRefused (record { number = 15; place = 0 }) 9) (example-latency .2))
+    desk-verdict (deskFile 9) exampleProposal desk-9-is desk-9-passes (proposals-read .0) (proposals-formed .0) (example-judged .2) ∙
+    ap (put notRefused notRefused (record { number = 15; place = 0 }) 9) (example-latency .2)
 
 example-8 : Holds (verdict (deskFile 8) exampleProposal (refused 12 0 0 (pos 0)))
 unfolding put toldLate first choose ifPassed counted countedMargin
 example-8 =
-    only-answer (deskFile 8) exampleProposal (refused 12 0 0 (pos 0)) (λ z. omega arith)
-    (λ place.
-    verdict-put (deskFile 8) exampleProposal place ∙
+    verdict-put (deskFile 8) exampleProposal ∙
     ap (λ (a : Refusal).
-    put a (proposalRefusal (tasksOf (deskFile 8)) exampleProposal) (judgedRefusal (graphOf (deskFile 8)) (proposalOf exampleProposal) place)
-    (graphOf (deskFile 8) .bound) (resultLatency (deskFile 8) exampleProposal)) desk-8-refused)
+    put a (proposalRefusal (tasksOf (deskFile 8)) exampleProposal) (judgedRefusal (graphOf (deskFile 8)) (proposalOf exampleProposal))
+    (graphOf (deskFile 8) .bound) (resultLatency (deskFile 8) exampleProposal)) desk-8-refused
 
 empty-loses : Holds (verdict exampleFile emptyProposal (refused 14 1 0 (pos 0)))
 unfolding put toldLate first choose ifPassed counted countedMargin
 empty-loses =
-    only-answer exampleFile emptyProposal (refused 14 1 0 (pos 0)) (λ z. omega arith)
-    (λ place. desk-verdict exampleFile emptyProposal desk-is desk-passes (proposals-read .1) (proposals-formed .1) place (others-judged place .0))
+    desk-verdict exampleFile emptyProposal desk-is desk-passes (proposals-read .1) (proposals-formed .1) (others-judged .0)
 
 first-loses : Holds (verdict exampleFile firstOnly (refused 14 2 0 (pos 0)))
 unfolding put toldLate first choose ifPassed counted countedMargin
 first-loses =
-    only-answer exampleFile firstOnly (refused 14 2 0 (pos 0)) (λ z. omega arith)
-    (λ place. desk-verdict exampleFile firstOnly desk-is desk-passes (proposals-read .2) (proposals-formed .2) place (others-judged place .1))
+    desk-verdict exampleFile firstOnly desk-is desk-passes (proposals-read .2) (proposals-formed .2) (others-judged .1)
 
 delayed-loses : Holds (verdict exampleFile delayed (refused 14 1 0 (pos 0)))
 unfolding put toldLate first choose ifPassed counted countedMargin
 delayed-loses =
-    only-answer exampleFile delayed (refused 14 1 0 (pos 0)) (λ z. omega arith)
-    (λ place. desk-verdict exampleFile delayed desk-is desk-passes (proposals-read .3) (proposals-formed .3) place (others-judged place .2))
+    desk-verdict exampleFile delayed desk-is desk-passes (proposals-read .3) (proposals-formed .3) (others-judged .2)
 
--- ── 13 ──
-
-looped-verdict : (place : ℕ) → verdictOf exampleFile loopedFile place ≡ refused 13 place 0 (pos 0)
+looped-on-cycle : Holds (verdict exampleFile loopedFile (refused 13 1 0 (pos 0)))
 unfolding put toldLate first choose ifPassed counted countedMargin
-looped-verdict place =
-    desk-verdict exampleFile loopedFile desk-is desk-passes (proposals-read .4) (proposals-formed .4) place (others-judged place .3)
+looped-on-cycle =
+    desk-verdict exampleFile loopedFile desk-is desk-passes (proposals-read .4) (proposals-formed .4) (others-judged .3)
 
--- a place of three edges is 1, 2 or 3
-one-of-three : {place : ℕ} (before : ℕ) → place ≡ suc before → before < 3 → List·Memᴰ place (1 ∷ 2 ∷ 3 ∷ [])
-one-of-three zero is below = here is
-one-of-three (suc zero) is below = there (here is)
-one-of-three (suc (suc zero)) is below = there (there (here is))
-one-of-three (suc (suc (suc k))) is below = absurd (omega (arith, below))
-
--- and each of them is that of an edge on a cycle of the result
-open-place : (place : ℕ) → List·Memᴰ place (1 ∷ 2 ∷ 3 ∷ []) → OpenPlace (deskBound 12) loopedEdges place
-unfolding edgeIn
-open-place place (here is) = record { before = 0; place-is = is; present = lit< tt; on-cycle = desk-on-cycle (edge 0 2 0) (here refl) }
-open-place place (there (here is)) = record { before = 1; place-is = is; present = lit< tt; on-cycle = desk-on-cycle (edge 1 3 0) (there (here refl)) }
-open-place place (there (there (here is))) =
-    record { before = 2; place-is = is; present = lit< tt; on-cycle = desk-on-cycle (edge 3 0 1) (there (there (here refl))) }
-open-place place (there (there (there m))) = absurd (List·Memᴰ·not-nil m)
-
-looped-on-cycle : Holds (on-cycle exampleFile loopedFile (1 ∷ 2 ∷ 3 ∷ []))
-looped-on-cycle r = (to, back)
-  where
-    to : VerdictAnswer exampleFile loopedFile r → (place : ℕ) × List·Memᴰ place (1 ∷ 2 ∷ 3 ∷ []) × (r ≡ refused 13 place 0 (pos 0))
-    to h =
-        let is : r ≡ refused 13 (r .outcome .place) 0 (pos 0) = h .settled ∙ looped-verdict (r .outcome .place) in
-        let found = h .left-open (ap (λ (x : ProposalVerdict). x .outcome .number) is) in (
-          r .outcome .place,
-          one-of-three (found .before) (found .place-is) (subst (λ (es : List Edge). found .before < length es) (proposals-read .4) (found .present)),
-          is,
-        )
-
-    back : (place : ℕ) × List·Memᴰ place (1 ∷ 2 ∷ 3 ∷ []) × (r ≡ refused 13 place 0 (pos 0)) → VerdictAnswer exampleFile loopedFile r
-    back (place, listed, is) =
-        let same : place ≡ r .outcome .place = sym (ap (λ (x : ProposalVerdict). x .outcome .place) is) in
-        record {
-          settled = is ∙ (sym (looped-verdict place) ∙ ap (verdictOf exampleFile loopedFile) same);
-          left-open = λ thirteen.
-              subst (OpenPlace (graphOf exampleFile) (proposalOf loopedFile)) same
-              (subst (λ (es : List Edge). OpenPlace (graphOf exampleFile) es place) (sym (proposals-read .4))
-              (subst (λ (g : Graph). OpenPlace g loopedEdges place) (sym desk-is) (open-place place listed)));
-        }
+mixed-on-cycle : Holds (verdict exampleFile mixedFile (refused 13 2 0 (pos 0)))
+unfolding put toldLate first choose ifPassed counted countedMargin
+mixed-on-cycle =
+    desk-verdict exampleFile mixedFile desk-is desk-passes (proposals-read .5) (proposals-formed .5) (others-judged .4)
 
 -- ── Plans ──
 
@@ -396,6 +336,7 @@ all-hold =
     then first-loses
     then delayed-loses
     then looped-on-cycle
+    then mixed-on-cycle
     then plan-at-12
     then plan-at-9
     then no-more)

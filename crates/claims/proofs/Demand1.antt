@@ -3,12 +3,12 @@
 use mathlib.Core.Path.{_≡_, refl, ap, sym, _∙_, subst}
 use mathlib.Core.Logic.{_≢_}
 use mathlib.Core.List.{List}
-use Prim.Native.Nat.{ℕ, _*_, _<_}
+use Prim.Native.Nat.{ℕ}
 use native.Mathlib.Omega.{arith}
 use lib.IntN.{pos}
 use lib.ListN.{length}
 use Rattle.files.specs.declared.Refusal.{Refusal}
-use Rattle.files.specs.Files.{taskCount, edgeCount, graphRefusal, proposalRefusal}
+use Rattle.files.specs.Files.{graphRefusal, proposalRefusal}
 use Rattle.readings.specs.Working.{graphReading, proposalReading}
 use Rattle.readings.proofs.Held.{graph-refusal-given, proposal-refusal-given}
 use Rattle.acceptance.specs.declared.Outcome.{Outcome}
@@ -27,21 +27,21 @@ use Rattle.timetable.proofs.Given.{timetable-plain}
 use Rattle.timetable.proofs.Lists.{timetable-kept}
 use Rattle.plan.specs.Plan.{planRefusal, planAnswerOf}
 use Rattle.plan.proofs.Meanings.{plan-plain, plan-refused, plan-kept}
-use Rattle.claims.specs.Demand1.{Sequence, Says, _when_, graphFileChecks, proposalFileChecks, graphChecks, delaysChecks, timetableChecks, planChecks, verdictChecks, Obeys, Demand1}
-use Rattle.claims.proofs.Answered.{answered}
-use Rattle.claims.proofs.Followed.{graph-file-follows, graph-file-earlier, proposal-file-follows, proposal-file-earlier, graph-follows, graph-earlier, delays-follow, timetable-follows, plan-follows}
+use Rattle.verdict.specs.Verdict.{verdictOf}
+use Rattle.claims.specs.Demand1.{Sequence, Says, graphFileChecks, proposalFileChecks, graphChecks, delaysChecks, timetableChecks, planChecks, verdictChecks, Obeys, Demand1}
+use Rattle.claims.proofs.Followed.{graph-file-follows, proposal-file-follows, graph-follows, delays-follow, timetable-follows, plan-follows}
 use Rattle.claims.proofs.Passed.{graph-file-plain, proposal-file-plain}
-use Rattle.claims.proofs.Sequences.{Follows, says, All, all-both, OnePlace, settled, says-one}
-use Rattle.claims.proofs.Verdicts.{verdict-settled, verdict-says, place-passed, verdict-unnamed, verdict-plain, verdict-late}
+use Rattle.claims.proofs.Sequences.{Follows, says, says-one}
+use Rattle.claims.proofs.Verdicts.{verdict-says, place-passed, verdict-unnamed, verdict-plain, verdict-late}
 
-module _ (checks : Sequence) (one-place : All OnePlace checks) where
+module _ (checks : Sequence) where
   obeys :
       (o : Outcome) → Says checks (o .number) (o .place) → (o .number ≢ 15 → (o .latency ≡ 0) × (o .margin ≡ pos 0)) →
       (o .number ≡ 0 → o .place ≡ 0) → Obeys checks o
   obeys o said unnamed nowhere =
       record {
         called-for = said;
-        never-otherwise = λ number place other. says-one checks one-place number (o .number) place (o .place) other said;
+        never-otherwise = λ number place other. says-one checks number (o .number) place (o .place) other said;
         unnamed = unnamed;
         not-refused = λ none. let plain = unnamed (λ is. omega (arith, none, is)) in (nowhere none, plain .0, plain .1);
       }
@@ -50,26 +50,6 @@ module _ (checks : Sequence) (one-place : All OnePlace checks) where
   obeys-plainly : (r : Refusal) → Follows checks r → (r .number ≡ 0 → r .place ≡ 0) → Obeys checks (outcome r)
   unfolding outcome
   obeys-plainly r follows nowhere = obeys (outcome r) (says checks r follows nowhere) (λ other. (refl, refl)) nowhere
-
-graph-settled : (s : List ℕ) → All OnePlace (graphChecks s)
-graph-settled s = settled (graphChecks s) (graph-earlier s)
-
--- 16 and 17 name no place
-no-place : {number : ℕ} → number ≢ 13 → (p q : ℕ) → p ≡ 0 → q ≡ 0 → p ≡ q
-no-place other p q e f = e ∙ sym f
-
-delays-settled : (s : List ℕ) (room : ℕ) → All OnePlace (delaysChecks s room)
-unfolding delaysChecks
-delays-settled s room = all-both OnePlace (graphChecks s) (16 when room < taskCount s * taskCount s) (graph-settled s) (no-place, tt)
-
-timetable-settled : (s : List ℕ) (turns room : ℕ) → All OnePlace (timetableChecks s turns room)
-unfolding timetableChecks
-timetable-settled s turns room =
-    (no-place, all-both OnePlace (graphChecks s) (16 when room < taskCount s * turns) (graph-settled s) (no-place, tt))
-
-plan-settled : (s : List ℕ) (room : ℕ) → All OnePlace (planChecks s room)
-unfolding planChecks
-plan-settled s room = all-both OnePlace (graphChecks s) (16 when room < edgeCount s) (graph-settled s) (no-place, tt)
 
 -- no place where nothing is refused
 graph-nowhere : (s : List ℕ) → acceptanceRefusal s .number ≡ 0 → acceptanceRefusal s .place ≡ 0
@@ -84,29 +64,28 @@ timetable-nowhere s turns room none = ap (λ (r : Refusal). r .place) (timetable
 plan-obeys : (s : List ℕ) (room : ℕ) → Obeys (planChecks s room) (planAnswerOf s room .outcome)
 unfolding planAnswerOf
 plan-obeys s room =
-    obeys-plainly (planChecks s room) (plan-settled s room) (planRefusal s room) (plan-follows s room)
+    obeys-plainly (planChecks s room) (planRefusal s room) (plan-follows s room)
     (λ none. ap (λ (r : Refusal). r .place) (plan-plain s room none))
 
 figures-obey : (s : List ℕ) → Obeys (graphChecks s) (figuresOf s .outcome)
 unfolding figuresOf
-figures-obey s = obeys-plainly (graphChecks s) (graph-settled s) (acceptanceRefusal s) (graph-follows s) (graph-nowhere s)
+figures-obey s = obeys-plainly (graphChecks s) (acceptanceRefusal s) (graph-follows s) (graph-nowhere s)
 
 redundant-obeys : (s : List ℕ) → Obeys (graphChecks s) (redundantOf s .outcome)
 unfolding redundantOf
-redundant-obeys s = obeys-plainly (graphChecks s) (graph-settled s) (acceptanceRefusal s) (graph-follows s) (graph-nowhere s)
+redundant-obeys s = obeys-plainly (graphChecks s) (acceptanceRefusal s) (graph-follows s) (graph-nowhere s)
 
 -- the readings, whose refusals are those of their files
 read-graph-obeys : (s : List ℕ) → Obeys (graphFileChecks s) (outcome (graphReading s .refusal))
 read-graph-obeys s =
     subst (λ (r : Refusal). Obeys (graphFileChecks s) (outcome r)) (sym (graph-refusal-given s))
-    (obeys-plainly (graphFileChecks s) (settled (graphFileChecks s) (graph-file-earlier s)) (graphRefusal s) (graph-file-follows s)
+    (obeys-plainly (graphFileChecks s) (graphRefusal s) (graph-file-follows s)
     (λ none. ap (λ (r : Refusal). r .place) (graph-file-plain s none)))
 
 read-proposal-obeys : (n : ℕ) (p : List ℕ) → Obeys (proposalFileChecks n p) (outcome (proposalReading n p .refusal))
 read-proposal-obeys n p =
     subst (λ (r : Refusal). Obeys (proposalFileChecks n p) (outcome r)) (sym (proposal-refusal-given n p))
-    (obeys-plainly (proposalFileChecks n p) (settled (proposalFileChecks n p) (proposal-file-earlier {k = n} {n = n} refl p)) (proposalRefusal n p)
-    (proposal-file-follows {k = n} {n = n} refl p) (λ none. ap (λ (r : Refusal). r .place) (proposal-file-plain n p none)))
+    (obeys-plainly (proposalFileChecks n p) (proposalRefusal n p) (proposal-file-follows {k = n} {n = n} refl p) (λ none. ap (λ (r : Refusal). r .place) (proposal-file-plain n p none)))
 
 -- the outcome's number is the refusal's
 plan-number : (s : List ℕ) (room : ℕ) → planAnswerOf s room .outcome .number ≡ planRefusal s room .number
@@ -122,20 +101,15 @@ demand1-met =
       figures-refused = λ s some. let h = figures-refused s some in (h .1, h .2, h .3);
       redundant = redundant-obeys;
       redundant-refused = λ s some. let h = redundant-refused s some in (h .1, h .2);
-      delays = λ s room. obeys-plainly (delaysChecks s room) (delays-settled s room) (delaysRefusal s room) (delays-follow s room) (delays-nowhere s room);
+      delays = λ s room. obeys-plainly (delaysChecks s room) (delaysRefusal s room) (delays-follow s room) (delays-nowhere s room);
       delays-kept = delays-kept;
       timetable = λ s turns room.
-          obeys-plainly (timetableChecks s turns room) (timetable-settled s turns room) (timetableRefusal s turns room)
-          (timetable-follows s turns room) (timetable-nowhere s turns room);
+          obeys-plainly (timetableChecks s turns room) (timetableRefusal s turns room) (timetable-follows s turns room) (timetable-nowhere s turns room);
       timetable-kept = timetable-kept;
       plan = plan-obeys;
       plan-refused = λ s room some. plan-refused s room (λ none. some (plan-number s room ∙ none));
       plan-kept = λ s list some. plan-kept s list (λ none. some (plan-number s (length list) ∙ none));
-      answered = answered;
-      verdict = λ s p r answer.
-          obeys (verdictChecks s p) (verdict-settled s p) (r .outcome) (verdict-says s p r answer)
-          (verdict-unnamed s p r answer)
-          (place-passed s p r answer);
-      verdict-refused = λ s p r answer. verdict-plain s p r answer;
-      verdict-late = λ s p r answer. verdict-late s p r answer;
+      verdict = λ s p. obeys (verdictChecks s p) (verdictOf s p .outcome) (verdict-says s p) (verdict-unnamed s p) (place-passed s p);
+      verdict-refused = verdict-plain;
+      verdict-late = verdict-late;
     }

@@ -49,8 +49,7 @@ use Rattle.timetable.proofs.Lists.{timetable-past}
 use Rattle.timetable.proofs.Meanings.{timetable-mean, timetable-runs}
 use Rattle.judgement.specs.Theorems.{Sentenced, cycle-made, order-lost, late, accepted}
 use Rattle.judgement.proofs.Meanings.{judged-latency}
-use Rattle.verdict.specs.declared.ProposalVerdict.{ProposalVerdict}
-use Rattle.verdict.specs.Verdict.{VerdictAnswer, verdictOf, verdictRefusal, toldLate, countedMargin, margin, resultLatency}
+use Rattle.verdict.specs.Verdict.{verdictOf, verdictRefusal, toldLate, countedMargin, margin, resultLatency}
 use Rattle.stages.specs.Stages.{listed}
 use Rattle.plan.specs.Plan.{planRefusal, planAnswerOf, planAfter}
 use Rattle.plan.proofs.Meanings.{plan-given, plan-refused, plan-past, plan-means}
@@ -158,49 +157,42 @@ margin-within bound zero within = ap pos (omega arith)
 margin-within bound (suc l) within =
     ap (λ (t : Bool). cond t (negsuc (suc l - suc bound)) (pos (bound - suc l))) (le-ltb bound (suc l) within)
 
-margin-beyond : (bound latency : ℕ) → bound < latency → pos bound -ℤ pos latency ≡ negsuc (latency - bound - 1)
+pub margin-beyond : (bound latency : ℕ) → bound < latency → pos bound -ℤ pos latency ≡ negsuc (latency - bound - 1)
 margin-beyond bound zero beyond = absurd (not-suc-le-zero beyond)
 margin-beyond bound (suc l) beyond =
     ap (λ (t : Bool). cond t (negsuc (suc l - suc bound)) (pos (bound - suc l))) (lt-ltb bound (suc l) beyond) ∙ ap negsuc (omega arith)
 
 -- ── The demand ──
 
-module _ (s p : List ℕ) (r : ProposalVerdict) (answer : VerdictAnswer s p r) where
+module _ (s p : List ℕ) where
   -- what is told of an accepted proposal
-  module _ (given : r .outcome .number ≡ 0) where
-    pub latency-told : r .latency ≡ resultLatency s p
+  module _ (given : verdictOf s p .outcome .number ≡ 0) where
+    pub latency-told : verdictOf s p .latency ≡ resultLatency s p
     unfolding verdictOf
-    latency-told =
-        ap (λ (x : ProposalVerdict). x .latency) (answer .settled) ∙
-        if-passed (verdictRefusal s p (r .outcome .place) .number) (resultLatency s p) 0 (sym (number-is s p r answer) ∙ given)
+    latency-told = if-passed (verdictRefusal s p .number) (resultLatency s p) 0 (sym (number-is s p) ∙ given)
 
-    margin-told : r .margin ≡ pos (graphOf s .bound) -ℤ pos (r .latency)
+    margin-told : verdictOf s p .margin ≡ pos (graphOf s .bound) -ℤ pos (verdictOf s p .latency)
     unfolding verdictOf margin
     margin-told =
-        ap (λ (x : ProposalVerdict). x .margin) (answer .settled) ∙
-        (if-passed (verdictRefusal s p (r .outcome .place) .number) (margin (graphOf s .bound) (resultLatency s p)) (pos 0)
-        (sym (number-is s p r answer) ∙ given) ∙
-        ap (λ (l : ℕ). pos (graphOf s .bound) -ℤ pos l) (sym latency-told))
+        if-passed (verdictRefusal s p .number) (margin (graphOf s .bound) (resultLatency s p)) (pos 0) (sym (number-is s p) ∙ given) ∙
+        ap (λ (l : ℕ). pos (graphOf s .bound) -ℤ pos l) (sym latency-told)
 
   -- what is told of a late one
-  module _ (is : r .outcome .number ≡ 15) where
-    late-told : r .outcome .latency ≡ resultLatency s p
+  module _ (is : verdictOf s p .outcome .number ≡ 15) where
+    pub late-told : verdictOf s p .outcome .latency ≡ resultLatency s p
     unfolding verdictOf toldLate counted
-    late-told =
-        ap (λ (x : ProposalVerdict). x .outcome .latency) (answer .settled) ∙
-        ap (λ (n : ℕ). counted (eqb n 15) (resultLatency s p)) (sym (number-is s p r answer) ∙ is)
+    late-told = ap (λ (n : ℕ). counted (eqb n 15) (resultLatency s p)) (sym (number-is s p) ∙ is)
 
-    late-margin-told : r .outcome .margin ≡ pos (graphOf s .bound) -ℤ pos (r .outcome .latency)
+    pub late-margin-told : verdictOf s p .outcome .margin ≡ pos (graphOf s .bound) -ℤ pos (verdictOf s p .outcome .latency)
     unfolding verdictOf toldLate countedMargin margin
     late-margin-told =
-        ap (λ (x : ProposalVerdict). x .outcome .margin) (answer .settled) ∙
-        (ap (λ (n : ℕ). countedMargin (eqb n 15) (margin (graphOf s .bound) (resultLatency s p))) (sym (number-is s p r answer) ∙ is) ∙
-        ap (λ (l : ℕ). pos (graphOf s .bound) -ℤ pos l) (sym late-told))
+        ap (λ (n : ℕ). countedMargin (eqb n 15) (margin (graphOf s .bound) (resultLatency s p))) (sym (number-is s p) ∙ is) ∙
+        ap (λ (l : ℕ). pos (graphOf s .bound) -ℤ pos l) (sym late-told)
 
   module _ (graph : AcceptedFile s) (formed : WellFormedFile s p) (off : NoneOnCycle (edges (result (graphOf s) (proposalOf p))) (proposalOf p)) where
     latency-meant : Latency (edges (result (graphOf s) (proposalOf p))) (timeOf (graphOf s)) (graphOf s .output) (resultLatency s p)
     unfolding resultLatency
-    latency-meant = judged-latency (graphOf s) (proposalOf p) (graph .1) (edges-formed s p r answer graph formed) off
+    latency-meant = judged-latency (graphOf s) (proposalOf p) (graph .1) (edges-formed s p graph formed) off
 
     misses-iff : MissesBound (result (graphOf s) (proposalOf p)) ↔ (graphOf s .bound < resultLatency s p)
     unfolding resultLatency
@@ -208,18 +200,18 @@ module _ (s p : List ℕ) (r : ProposalVerdict) (answer : VerdictAnswer s p r) w
         result-misses (graphOf s) (proposalOf p)
         (record {
           sync-ends = graph .1 .formed .syncs-formed .ends;
-          proposed-ends = edges-formed s p r answer graph formed .ends;
+          proposed-ends = edges-formed s p graph formed .ends;
           no-zero-cycle = graph .1 .no-zero-cycle;
           off-cycles = off;
         })
         (λ v l. graph .1 .formed .times v l .0) (graph .1 .formed .output-below)
 
   accepted-told :
-      r .outcome .number ≡ 0 →
+      verdictOf s p .outcome .number ≡ 0 →
       Latency (edges (result (graphOf s) (proposalOf p))) (timeOf (graphOf s)) (graphOf s .output) (resultLatency s p) × (resultLatency s p ≤ graphOf s .bound)
   accepted-told given =
-      let h = all-passed s p r answer given in
-      go (h .0) (h .1) given (sentenced s p r answer (h .0) (h .1) (r .outcome .number) .0 refl)
+      let h = all-passed s p given in
+      go (h .0) (h .1) given (sentenced s p (h .0) (h .1) (verdictOf s p .outcome .number) .0 refl)
     where
       go : AcceptedFile s → WellFormedFile s p → {n : ℕ} → n ≡ 0 → Sentenced (graphOf s) (proposalOf p) n →
           Latency (edges (result (graphOf s) (proposalOf p))) (timeOf (graphOf s)) (graphOf s .output) (resultLatency s p) × (resultLatency s p ≤ graphOf s .bound)
@@ -230,13 +222,13 @@ module _ (s p : List ℕ) (r : ProposalVerdict) (answer : VerdictAnswer s p r) w
           let in-time : graphOf s .bound < resultLatency s p → ⊥ = λ high. meets (misses-iff graph formed off .1 high) in
           (latency-meant graph formed off, omega (arith, in-time))
 
-  late-meant :
-      r .outcome .number ≡ 15 →
+  pub late-meant :
+      verdictOf s p .outcome .number ≡ 15 →
       Latency (edges (result (graphOf s) (proposalOf p))) (timeOf (graphOf s)) (graphOf s .output) (resultLatency s p) × (graphOf s .bound < resultLatency s p)
   late-meant fifteen =
-      let high : 13 ≤ r .outcome .number = omega (arith, fifteen) in
-      let h = only-judged s p r answer high in
-      go (h .0) (h .1) fifteen (sentenced s p r answer (h .0) (h .1) (r .outcome .number) .0 refl)
+      let high : 13 ≤ verdictOf s p .outcome .number = omega (arith, fifteen) in
+      let h = only-judged s p high in
+      go (h .0) (h .1) fifteen (sentenced s p (h .0) (h .1) (verdictOf s p .outcome .number) .0 refl)
     where
       go : AcceptedFile s → WellFormedFile s p → {n : ℕ} → n ≡ 15 → Sentenced (graphOf s) (proposalOf p) n →
           Latency (edges (result (graphOf s) (proposalOf p))) (timeOf (graphOf s)) (graphOf s .output) (resultLatency s p) × (graphOf s .bound < resultLatency s p)
@@ -347,14 +339,14 @@ demand2-met =
       plan-latency = λ s list passed. plan-means s list (plan-not-refused s (length list) passed) .2;
       plan-few = plan-small;
       plan-past = plan-past;
-      judged-latency = λ s p r answer given. subst (Latency _ _ _) (sym (latency-told s p r answer given)) (accepted-told s p r answer given .0);
+      judged-latency = λ s p given. subst (Latency _ _ _) (sym (latency-told s p given)) (accepted-told s p given .0);
       margin = margin-told;
-      in-time = λ s p r answer given.
-          let low = subst (λ (l : ℕ). l ≤ graphOf s .bound) (sym (latency-told s p r answer given)) (accepted-told s p r answer given .1) in
-          (low, margin-told s p r answer given ∙ margin-within (graphOf s .bound) (r .latency) low);
-      late-latency = λ s p r answer is. subst (Latency _ _ _) (sym (late-told s p r answer is)) (late-meant s p r answer is .0);
+      in-time = λ s p given.
+          let low = subst (λ (l : ℕ). l ≤ graphOf s .bound) (sym (latency-told s p given)) (accepted-told s p given .1) in
+          (low, margin-told s p given ∙ margin-within (graphOf s .bound) (verdictOf s p .latency) low);
+      late-latency = λ s p is. subst (Latency _ _ _) (sym (late-told s p is)) (late-meant s p is .0);
       late-margin = late-margin-told;
-      late-by = λ s p r answer is.
-          let high = subst (λ (l : ℕ). graphOf s .bound < l) (sym (late-told s p r answer is)) (late-meant s p r answer is .1) in
-          (high, late-margin-told s p r answer is ∙ margin-beyond (graphOf s .bound) (r .outcome .latency) high);
+      late-by = λ s p is.
+          let high = subst (λ (l : ℕ). graphOf s .bound < l) (sym (late-told s p is)) (late-meant s p is .1) in
+          (high, late-margin-told s p is ∙ margin-beyond (graphOf s .bound) (verdictOf s p .outcome .latency) high);
     }

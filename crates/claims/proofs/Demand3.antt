@@ -31,8 +31,7 @@ use Rattle.acceptance.specs.Theorems.{AcceptedFile}
 use Rattle.judgement.specs.Judgement.{judgedRefusal, tellsLatency, judgement}
 use Rattle.judgement.specs.Theorems.{Sentenced, cycle-made, order-lost, late, accepted}
 use Rattle.judgement.proofs.Meanings.{accepted-by-paths}
-use Rattle.verdict.specs.declared.ProposalVerdict.{ProposalVerdict}
-use Rattle.verdict.specs.Verdict.{VerdictAnswer, resultLatency}
+use Rattle.verdict.specs.Verdict.{verdictOf, resultLatency}
 use Rattle.plan.specs.Plan.{planRefusal, planAnswerOf}
 use Rattle.plan.proofs.Meanings.{plan-given, latency-told, edges-listed}
 use Rattle.claims.specs.Demand2.{planListed}
@@ -63,15 +62,15 @@ original-kept g graph =
 none-breaks : (n : ℕ) (rs es : List Edge) → RunsAllowed n rs es → SomeRunBreaks n rs es → ⊥
 none-breaks n rs es runs (K, start, dur, run, breaks) = breaks (runs K start dur run)
 
-module _ (s p : List ℕ) (r : ProposalVerdict) (answer : VerdictAnswer s p r) where
+module _ (s p : List ℕ) where
   module _ (graph : AcceptedFile s) (formed : WellFormedFile s p) where
-    gets : (m : ℕ) → Sentenced (graphOf s) (proposalOf p) m → r .outcome .number ≡ m
-    gets m because = sentenced s p r answer graph formed m .1 because
+    gets : (m : ℕ) → Sentenced (graphOf s) (proposalOf p) m → verdictOf s p .outcome .number ≡ m
+    gets m because = sentenced s p graph formed m .1 because
 
-    sentence : Sentenced (graphOf s) (proposalOf p) (r .outcome .number)
-    sentence = sentenced s p r answer graph formed (r .outcome .number) .0 refl
+    sentence : Sentenced (graphOf s) (proposalOf p) (verdictOf s p .outcome .number)
+    sentence = sentenced s p graph formed (verdictOf s p .outcome .number) .0 refl
 
-    thirteen : (r .outcome .number ≡ 13) ↔ ((e : Edge) × e ∈ proposalOf p × OnCycle (edges (resultGraph s p)) e)
+    thirteen : (verdictOf s p .outcome .number ≡ 13) ↔ ((e : Edge) × e ∈ proposalOf p × OnCycle (edges (resultGraph s p)) e)
     thirteen = (λ is. to is sentence, λ h. gets 13 (cycle-made refl (h .0) (h .1) (h .2)))
       where
         to : {n : ℕ} → n ≡ 13 → Sentenced (graphOf s) (proposalOf p) n → (e : Edge) × e ∈ proposalOf p × OnCycle (edges (resultGraph s p)) e
@@ -81,7 +80,7 @@ module _ (s p : List ℕ) (r : ProposalVerdict) (answer : VerdictAnswer s p r) w
         to is (accepted because off runs meets) = absurd (omega (arith, is, because))
 
     module _ (off : NoneOnCycle (edges (resultGraph s p)) (proposalOf p)) where
-      fourteen : (r .outcome .number ≡ 14) ↔ RunBreaks s p
+      fourteen : (verdictOf s p .outcome .number ≡ 14) ↔ RunBreaks s p
       unfolding tasksOf
       fourteen = (λ is. to is sentence, λ breaks. gets 14 (order-lost refl off breaks))
         where
@@ -91,7 +90,7 @@ module _ (s p : List ℕ) (r : ProposalVerdict) (answer : VerdictAnswer s p r) w
           to is (late because apart runs misses) = absurd (omega (arith, is, because))
           to is (accepted because apart runs meets) = absurd (omega (arith, is, because))
 
-      fifteen : (r .outcome .number ≡ 15) ↔ ((RunBreaks s p → ⊥) × Late s p)
+      fifteen : (verdictOf s p .outcome .number ≡ 15) ↔ ((RunBreaks s p → ⊥) × Late s p)
       unfolding tasksOf
       fifteen = (λ is. to is sentence, λ h. back (h .0) (h .1) sentence)
         where
@@ -107,7 +106,7 @@ module _ (s p : List ℕ) (r : ProposalVerdict) (answer : VerdictAnswer s p r) w
           back none missed (late because apart runs misses) = because
           back none missed (accepted because apart runs meets) = absurd (meets missed)
 
-      otherwise : (r .outcome .number ≡ 0) ↔ ((RunBreaks s p → ⊥) × (Late s p → ⊥))
+      otherwise : (verdictOf s p .outcome .number ≡ 0) ↔ ((RunBreaks s p → ⊥) × (Late s p → ⊥))
       unfolding tasksOf
       otherwise = (λ is. to is sentence, λ h. back (h .0) (h .1) sentence)
         where
@@ -123,7 +122,7 @@ module _ (s p : List ℕ) (r : ProposalVerdict) (answer : VerdictAnswer s p r) w
           back none met (late because apart runs misses) = absurd (met misses)
           back none met (accepted because apart runs meets) = because
 
-    kept : r .outcome .number ≡ 0 → Resynchronizes (graphOf s) (resultGraph s p)
+    kept : verdictOf s p .outcome .number ≡ 0 → Resynchronizes (graphOf s) (resultGraph s p)
     kept none = go none sentence
       where
         go : {n : ℕ} → n ≡ 0 → Sentenced (graphOf s) (proposalOf p) n → Resynchronizes (graphOf s) (resultGraph s p)
@@ -131,16 +130,16 @@ module _ (s p : List ℕ) (r : ProposalVerdict) (answer : VerdictAnswer s p r) w
         go is (order-lost because off breaks) = absurd (omega (arith, is, because))
         go is (late because off runs misses) = absurd (omega (arith, is, because))
         go is (accepted because off runs meets) =
-            let well = edges-formed s p r answer graph formed in
+            let well = edges-formed s p graph formed in
             accepted-result (graphOf s) (proposalOf p) (graph .1) well (accepted-iff (graphOf s) (proposalOf p) (graph .1) well off .1 (runs, meets))
 
-    by-paths : (r .outcome .number ≡ 0) ↔ AcceptedProposal (graphOf s) (proposalOf p)
+    by-paths : (verdictOf s p .outcome .number ≡ 0) ↔ AcceptedProposal (graphOf s) (proposalOf p)
     by-paths =
-        let iff = accepted-by-paths (graphOf s) (proposalOf p) (graph .1) (edges-formed s p r answer graph formed) (r .outcome .place) in
-        let same = number-judged s p r answer graph formed in
+        let iff = accepted-by-paths (graphOf s) (proposalOf p) (graph .1) (edges-formed s p graph formed) in
+        let same = number-judged s p graph formed in
         (λ none. iff .0 (sym same ∙ none), λ ok. same ∙ iff .1 ok)
 
-    off-cycles : 14 ≤ r .outcome .number → NoneOnCycle (edges (resultGraph s p)) (proposalOf p)
+    off-cycles : 14 ≤ verdictOf s p .outcome .number → NoneOnCycle (edges (resultGraph s p)) (proposalOf p)
     off-cycles high = go high sentence
       where
         go : {n : ℕ} → 14 ≤ n → Sentenced (graphOf s) (proposalOf p) n → NoneOnCycle (edges (resultGraph s p)) (proposalOf p)
@@ -165,35 +164,35 @@ module _ (s : List ℕ) (list : List EdgeRecord) (passed : planRefusal s (length
   written = edges-listed s list passed
 
   -- nothing is refused of it
-  own-judged : (place : ℕ) → judgedRefusal g (planOf g .list) place ≡ notRefused
+  own-judged : judgedRefusal g (planOf g .list) ≡ notRefused
   unfolding judgedRefusal
-  own-judged place = none-refused _ (accepted-by-paths g (planOf g .list) (graph-accepted .1) (own-stage .0) place .1 (own-stage .1))
+  own-judged = none-refused _ (accepted-by-paths g (planOf g .list) (graph-accepted .1) (own-stage .0) .1 (own-stage .1))
 
-  own-judgement : (place : ℕ) → judgement g (planOf g .list) place ≡ record { refusal = notRefused; latency = planAnswerOf s (length list) .latency }
+  own-judgement : judgement g (planOf g .list) ≡ record { refusal = notRefused; latency = planAnswerOf s (length list) .latency }
   unfolding judgement tellsLatency counted planLatency
-  own-judgement place = λ i. record {
-    refusal = own-judged place i;
-    latency = (ap (λ (r : Refusal). counted (tellsLatency (r .number)) (latencyOf (result g (planOf g .list)))) (own-judged place) ∙ sym (latency-told s list passed)) i;
+  own-judgement = λ i. record {
+    refusal = own-judged i;
+    latency = (ap (λ (r : Refusal). counted (tellsLatency (r .number)) (latencyOf (result g (planOf g .list)))) own-judged ∙ sym (latency-told s list passed)) i;
   }
 
   planned :
       WellFormedEdges (count g) (planListed s list) × AcceptedProposal g (planListed s list) ×
-      ((place : ℕ) → judgement g (planListed s list) place ≡ record { refusal = notRefused; latency = planAnswerOf s (length list) .latency })
+      (judgement g (planListed s list) ≡ record { refusal = notRefused; latency = planAnswerOf s (length list) .latency })
   planned = (
     subst (WellFormedEdges (count g)) (sym written) (own-stage .0),
     subst (AcceptedProposal g) (sym written) (own-stage .1),
-    λ place. ap (λ (es : List Edge). judgement g es place) written ∙ own-judgement place,
+    ap (judgement g) written ∙ own-judgement,
   )
 
   -- and of a file that holds it
   plan-accepted :
-      (p : List ℕ) (r : ProposalVerdict) → VerdictAnswer s p r → WellFormedFile s p → proposalOf p ≡ planListed s list →
-      (r .outcome .number ≡ 0) × (r .latency ≡ planAnswerOf s (length list) .latency)
+      (p : List ℕ) → WellFormedFile s p → proposalOf p ≡ planListed s list →
+      (verdictOf s p .outcome .number ≡ 0) × (verdictOf s p .latency ≡ planAnswerOf s (length list) .latency)
   unfolding planLatency resultLatency
-  plan-accepted p r answer formed same =
+  plan-accepted p formed same =
       let is = same ∙ written in
-      let none = by-paths s p r answer graph-accepted formed .1 (subst (AcceptedProposal g) (sym is) (own-stage .1)) in
-      (none, verdict-latency s p r answer none ∙ (ap (λ (es : List Edge). latencyOf (result g es)) is ∙ sym (latency-told s list passed)))
+      let none = by-paths s p graph-accepted formed .1 (subst (AcceptedProposal g) (sym is) (own-stage .1)) in
+      (none, verdict-latency s p none ∙ (ap (λ (es : List Edge). latencyOf (result g es)) is ∙ sym (latency-told s list passed)))
 
 pub demand3-met : Demand3
 unfolding tasksOf
@@ -207,16 +206,16 @@ demand3-met =
           let h = stage-accepted (graphOf s) (graph .1) steps list stage in
           (h .0, h .1, stage-resynchronizes (graphOf s) (graph .1) steps list stage);
       planned = λ s list none. planned s list (plan-not-refused s (length list) none);
-      plan-accepted = λ s p r answer list none formed same. plan-accepted s list (plan-not-refused s (length list) none) p r answer formed same;
-      kept = λ s p r answer none. let h = all-passed s p r answer none in (h .0, h .1, kept s p r answer (h .0) (h .1) none);
+      plan-accepted = λ s p list none formed same. plan-accepted s list (plan-not-refused s (length list) none) p formed same;
+      kept = λ s p none. let h = all-passed s p none in (h .0, h .1, kept s p (h .0) (h .1) none);
       by-paths = by-paths;
       thirteen = thirteen;
       fourteen = fourteen;
       fifteen = fifteen;
       otherwise = otherwise;
       only-then = only-judged;
-      only-off-cycles = λ s p r answer high.
-          let above : 13 ≤ r .outcome .number = omega (arith, high) in
-          let h = only-judged s p r answer above in
-          off-cycles s p r answer (h .0) (h .1) high;
+      only-off-cycles = λ s p high.
+          let above : 13 ≤ verdictOf s p .outcome .number = omega (arith, high) in
+          let h = only-judged s p above in
+          off-cycles s p (h .0) (h .1) high;
     }

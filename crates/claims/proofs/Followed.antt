@@ -27,7 +27,7 @@ use Rattle.timetable.specs.Timetable.{turnsRefusal, timetableRefusal}
 use Rattle.plan.specs.Plan.{planRefusal}
 use Rattle.claims.specs.Demand1.{Sequence, _at_when_, _when_, _then_, each, Outside, FillingBit, NotBelow, SameProcessor, SameAsEarlier, InputWaits, NotJoined, BoundBelow, graphFileChecks, nineToTwelve, graphChecks, proposalFileChecks, delaysChecks, timetableChecks, planChecks}
 use Rattle.claims.proofs.Conditions.{decides-or, differs, outside, not-below, end-outside, within-processor, filling-bit}
-use Rattle.claims.proofs.Sequences.{Follows, passing, stopping, one, check-then, and-then, only, each-follows, All, all-both, all-each, Earlier, low}
+use Rattle.claims.proofs.Sequences.{Follows, passing, stopping, one, check-then, and-then, only, each-follows}
 
 -- ── What both files have ──
 
@@ -107,27 +107,17 @@ module _ (s : List ℕ) where
   unfolding graphRecordsRefusal
   records-follow =
       and-then (each (taskCount s) times) (each (edgeCount s) edge then each (edgeCount s) repeats) _
-      (each-follows times (timeRefusal g) time-follows (task-count s))
+      (each-follows times (timeRefusal g) (λ v below. time-follows v) (task-count s))
       (λ none.
       and-then (each (edgeCount s) edge) (each (edgeCount s) repeats) _
-      (each-follows edge (edgeRefusal (g .tasks) (g .syncs)) edge-follows (sync-count s))
-      (λ none. only (each-follows repeats (repeatRefusal (g .syncs)) (repeats-follow (g .syncs)) (sync-count s))))
+      (each-follows edge (edgeRefusal (g .tasks) (g .syncs)) (λ j below. edge-follows j) (sync-count s))
+      (λ none. only (each-follows repeats (repeatRefusal (g .syncs)) (λ j below. repeats-follow (g .syncs) j) (sync-count s))))
 
   pub graph-file-follows : Follows (graphFileChecks s) (graphRefusal s)
   unfolding graphFileChecks graphRefusal
   graph-file-follows =
       and-then (header then lengths s (graphBits s) then 4 when FillingBit s (graphBits s) then header-ends)
       (each (taskCount s) times then each (edgeCount s) edge then each (edgeCount s) repeats) _ frame-follows (λ none. only records-follow)
-
-  pub graph-file-earlier : All Earlier (graphFileChecks s)
-  unfolding graphFileChecks
-  graph-file-earlier =
-      all-both Earlier (header then lengths s (graphBits s) then 4 when FillingBit s (graphBits s) then header-ends)
-      (each (taskCount s) times then each (edgeCount s) edge then each (edgeCount s) repeats) (low tt, (low tt, (low tt, (low tt, (low tt, (low tt, (low tt, tt)))))))
-      (all-both Earlier (each (taskCount s) times) (each (edgeCount s) edge then each (edgeCount s) repeats)
-      (all-each Earlier (taskCount s) times (λ v. (low tt, tt)))
-      (all-both Earlier (each (edgeCount s) edge) (each (edgeCount s) repeats) (all-each Earlier (edgeCount s) edge (λ j. (low tt, (low tt, tt))))
-      (all-each Earlier (edgeCount s) repeats (λ j. (low tt, tt)))))
 
 -- ── 9 to 12 ──
 
@@ -172,14 +162,6 @@ module _ (g : Graph) where
 
   schedule-follows : WellFormed g → Follows (nineToTwelve g) (scheduleRefusal g)
   schedule-follows formed = judged-follows (scheduleRefusal g .number) refl (judged-iff g formed (scheduleRefusal g .number) .0 refl)
-
-schedule-earlier : (g : Graph) → All Earlier (nineToTwelve g)
-unfolding nineToTwelve
-schedule-earlier g = (low tt, (low tt, (low tt, (low tt, tt))))
-
-pub graph-earlier : (s : List ℕ) → All Earlier (graphChecks s)
-unfolding graphChecks
-graph-earlier s = all-both Earlier (graphFileChecks s) (nineToTwelve (graphOf s)) (graph-file-earlier s) (schedule-earlier (graphOf s))
 
 pub graph-follows : (s : List ℕ) → Follows (graphChecks s) (acceptanceRefusal s)
 unfolding graphChecks acceptanceRefusal
@@ -256,21 +238,13 @@ module _ {k n : ℕ} (same : k ≡ n) (p : List ℕ) where
   unfolding proposedEdgesRefusal
   proposed-edges-follow =
       and-then proposed-ends proposed-repeats _
-      (each-follows (λ j. 6 at suc j when NotBelow n (edgeIn (proposalOf p) j)) (endsRefusal k (proposalOf p)) (ends-follow same (proposalOf p)) (proposal-count p))
+      (each-follows (λ j. 6 at suc j when NotBelow n (edgeIn (proposalOf p) j)) (endsRefusal k (proposalOf p)) (λ j below. ends-follow same (proposalOf p) j) (proposal-count p))
       (λ none.
       only
-      (each-follows (λ j. 8 at suc j when SameAsEarlier (proposalOf p) j) (repeatRefusal (proposalOf p)) (repeats-follow (proposalOf p)) (proposal-count p)))
+      (each-follows (λ j. 8 at suc j when SameAsEarlier (proposalOf p) j) (repeatRefusal (proposalOf p)) (λ j below. repeats-follow (proposalOf p) j) (proposal-count p)))
 
   pub proposal-file-follows : Follows (proposalFileChecks n p) (proposalRefusal k p)
   unfolding proposalFileChecks proposalRefusal
   proposal-file-follows =
       and-then (proposal-header then lengths p (proposalBits p) then zero-bits then fill) (proposed-ends then proposed-repeats) _
       proposal-frame-follows (λ none. only proposed-edges-follow)
-
-  pub proposal-file-earlier : All Earlier (proposalFileChecks n p)
-  unfolding proposalFileChecks
-  proposal-file-earlier =
-      all-both Earlier (proposal-header then lengths p (proposalBits p) then zero-bits then fill) (proposed-ends then proposed-repeats)
-      (low tt, (low tt, (low tt, (low tt, (low tt, (low tt, (low tt, tt)))))))
-      (all-both Earlier proposed-ends proposed-repeats (all-each Earlier (proposalHeader p .edges) (λ j. 6 at suc j when NotBelow n (edgeIn (proposalOf p) j)) (λ j. (low tt, tt)))
-      (all-each Earlier (proposalHeader p .edges) (λ j. 8 at suc j when SameAsEarlier (proposalOf p) j) (λ j. (low tt, tt))))

@@ -4,7 +4,6 @@ pub mod Conditions
 pub mod Followed
 pub mod Verdicts
 pub mod Answer
-pub mod Answered
 pub mod Passed
 pub mod Demand1
 pub mod Demand2

@@ -16,8 +16,8 @@ use Rattle.acceptance.proofs.Judged.{accepted-iff-passed}
 use Rattle.acceptance.proofs.Rooms.{success-plain}
 use Rattle.claims.specs.Demand1.{Sequence, Says, graphChecks, proposalFileChecks}
 use Rattle.claims.specs.Demand3.{WellFormedFile}
-use Rattle.claims.proofs.Followed.{graph-follows, graph-earlier, proposal-file-follows, proposal-file-earlier}
-use Rattle.claims.proofs.Sequences.{Follows, says, says-one, All, OnePlace, settled}
+use Rattle.claims.proofs.Followed.{graph-follows, proposal-file-follows}
+use Rattle.claims.proofs.Sequences.{Follows, says, says-one}
 
 -- a file that is read has no refusal, so no place of one
 pub graph-file-plain : (s : List ℕ) → graphRefusal s .number ≡ 0 → graphRefusal s ≡ notRefused
@@ -28,11 +28,10 @@ pub proposal-file-plain : (n : ℕ) (p : List ℕ) → proposalRefusal n p .numb
 unfolding proposalRefusal
 proposal-file-plain n p none = none-refused _ none
 
-passed-says :
-    (checks : Sequence) (r : Refusal) → All OnePlace checks → Follows checks r → (r .number ≡ 0 → r ≡ notRefused) → (r .number ≡ 0) ↔ Says checks 0 0
-passed-says checks r one-place follows plain = (
+passed-says : (checks : Sequence) (r : Refusal) → Follows checks r → (r .number ≡ 0 → r ≡ notRefused) → (r .number ≡ 0) ↔ Says checks 0 0
+passed-says checks r follows plain = (
   λ none. subst (λ (q : Refusal). Says checks (q .number) (q .place)) (plain none) said,
-  λ passed. sym (says-one checks one-place 0 (r .number) 0 (r .place) passed said .0),
+  λ passed. sym (says-one checks 0 (r .number) 0 (r .place) passed said .0),
 )
   where
     said : Says checks (r .number) (r .place)
@@ -40,12 +39,11 @@ passed-says checks r one-place follows plain = (
 
 pub graph-passes : (s : List ℕ) → AcceptedFile s ↔ Says (graphChecks s) 0 0
 graph-passes s =
-    let iff = passed-says (graphChecks s) (acceptanceRefusal s) (settled (graphChecks s) (graph-earlier s)) (graph-follows s) (success-plain s) in
+    let iff = passed-says (graphChecks s) (acceptanceRefusal s) (graph-follows s) (success-plain s) in
     (λ graph. iff .0 (accepted-iff-passed s .1 graph), λ said. accepted-iff-passed s .0 (iff .1 said))
 
 pub proposal-passes : (s p : List ℕ) → WellFormedFile s p ↔ Says (proposalFileChecks (taskCount s) p) 0 0
 unfolding tasksOf
 proposal-passes s p =
     passed-says (proposalFileChecks (taskCount s) p) (proposalRefusal (tasksOf s) p)
-    (settled (proposalFileChecks (taskCount s) p) (proposal-file-earlier (task-count s) p)) (proposal-file-follows (task-count s) p)
-    (proposal-file-plain (tasksOf s) p)
+    (proposal-file-follows (task-count s) p) (proposal-file-plain (tasksOf s) p)

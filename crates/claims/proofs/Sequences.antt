@@ -1,21 +1,19 @@
 -- A chain of refusals follows a sequence of checks if it passes where no condition holds, and else stops with the number and the place of the first
--- that does. Shown of one check, of chains one after the other and of those of each place; and a sequence says one number only, and one place unless it
--- is that of 13.
+-- that does. Shown of one check, of chains one after the other and of those of each place; and a sequence says one number and one place only.
 use mathlib.Core.Path.{_≡_, refl, sym, _∙_, subst}
 use mathlib.Core.Logic.{_⊎_, inl, inr, _≢_}
 use mathlib.Core.Bool.{Bool}
 use mathlib.Core.List.{List, [], _∷_, _++_}
 use Prim.Native.Nat.{ℕ, zero, suc, _<_}
 use native.Mathlib.Omega.{arith}
-use lib.Dec.{T, ltb, lit<}
 use Rattle.model.specs.Lists.{tabulate}
 use Rattle.model.specs.Theorems.{Decides}
 use Rattle.model.proofs.Tests.{decided, decides-yes, decides-no}
 use Rattle.files.specs.declared.Refusal.{Refusal}
 use Rattle.files.specs.Files.{firstOf}
 use Rattle.files.specs.Refusals.{refuse, first}
-use Rattle.files.proofs.First.{passes, stops, refused, not-refused, number-same, no-checks, zero-or-not, passed-all, stopped-before}
-use Rattle.claims.specs.Demand1.{Check, Sequence, Says, _at_when_, _then_, each}
+use Rattle.files.proofs.First.{passes, stops, refused, not-refused, number-same, no-checks, passed-all, stopped-before}
+use Rattle.claims.specs.Demand1.{Sequence, Says, _at_when_, _then_, each}
 
 -- no condition of the sequence holds
 abbrev pub Passes : Sequence → Type 0
@@ -26,7 +24,7 @@ Passes (check ∷ later) = (check .condition → ⊥) × Passes later
 abbrev pub Stops : Sequence → ℕ → ℕ → Type 0
 Stops [] number place = ⊥
 Stops (check ∷ later) number place =
-    (check .condition × (number ≡ check .number) × check .placed place) ⊎ ((check .condition → ⊥) × Stops later number place)
+    (check .condition × (number ≡ check .number) × (place ≡ check .place)) ⊎ ((check .condition → ⊥) × Stops later number place)
 
 pub data Follows (checks : Sequence) (r : Refusal) : Type 0 where
   passing : r .number ≡ 0 → Passes checks → Follows checks r
@@ -97,82 +95,22 @@ pub check-then :
 check-then {c = c} {number = number} {place = place} {later = later} rs d some rest =
     and-then (number at place when c) later rs (one d some) (λ none. rest)
 
-module _ (checks : ℕ → Sequence) (f : ℕ → Refusal) (follow : (j : ℕ) → Follows (checks j) (f j)) where
-  all-below : (n : ℕ) → Follows (each n checks) (firstOf n f)
+module _ (checks : ℕ → Sequence) (f : ℕ → Refusal) where
+  all-below : (n : ℕ) → ((j : ℕ) → j < n → Follows (checks j) (f j)) → Follows (each n checks) (firstOf n f)
   unfolding each firstOf tabulate
-  all-below zero = passing (number-same no-checks) tt
-  all-below (suc n) =
-      both (each n checks) (checks n) (passed-all (tabulate n f) (f n ∷ [])) (stopped-before (tabulate n f) (f n ∷ [])) (all-below n)
-      (λ none. only (follow n))
+  all-below zero follow = passing (number-same no-checks) tt
+  all-below (suc n) follow =
+      both (each n checks) (checks n) (passed-all (tabulate n f) (f n ∷ [])) (stopped-before (tabulate n f) (f n ∷ []))
+      (all-below n (λ j l. follow j (omega arith))) (λ none. only (follow n (omega arith)))
 
-  pub each-follows : {n k : ℕ} → n ≡ k → Follows (each k checks) (firstOf n f)
-  each-follows {n} {k} same = subst (λ (m : ℕ). Follows (each m checks) (firstOf n f)) same (all-below n)
-
--- ── Every check of a sequence ──
-
-abbrev pub All : (Check → Type 0) → Sequence → Type 0
-All P [] = Unit {0}
-All P (check ∷ later) = P check × All P later
-
-pub all-both : (P : Check → Type 0) (a b : Sequence) → All P a → All P b → All P (a ++ b)
-all-both P [] b h k = k
-all-both P (check ∷ a) b h k = (h .0, all-both P a b (h .1) k)
-
-pub all-each : (P : Check → Type 0) (n : ℕ) (checks : ℕ → Sequence) → ((j : ℕ) → All P (checks j)) → All P (each n checks)
-unfolding each
-all-each P zero checks h = tt
-all-each P (suc n) checks h = all-both P (each n checks) (checks n) (all-each P n checks h) (h n)
-
--- the check names one place; 13's need not
-abbrev pub OnePlace : Check → Type 0
-OnePlace check = check .number ≢ 13 → (p q : ℕ) → check .placed p → check .placed q → p ≡ q
-
--- and it is none of 13 to 15
-abbrev pub Earlier : Check → Type 0
-Earlier check = OnePlace check × (check .number < 13)
-
--- a check with a fixed place, of a number below 13
-pub low : {number a : ℕ} → T (ltb number 13) → (number ≢ 13 → (p q : ℕ) → p ≡ a → q ≡ a → p ≡ q) × (number < 13)
-low below = (λ other p q e f. e ∙ sym f, lit< below)
-
-pub settled : (checks : Sequence) → All Earlier checks → All OnePlace checks
-settled [] h = tt
-settled (check ∷ later) h = (h .0 .0, settled later (h .1))
+  pub each-follows : {n k : ℕ} → ((j : ℕ) → j < n → Follows (checks j) (f j)) → n ≡ k → Follows (each k checks) (firstOf n f)
+  each-follows {n} {k} follow same = subst (λ (m : ℕ). Follows (each m checks) (firstOf n f)) same (all-below n follow)
 
 -- ── A sequence says one thing only ──
 
-pub says-one :
-    (checks : Sequence) → All OnePlace checks → (m n p q : ℕ) → Says checks m p → Says checks n q → (m ≡ n) × (m ≢ 13 → p ≡ q)
-says-one [] settled m n p q h k = (h .0 ∙ sym (k .0), λ other. h .1 ∙ sym (k .1))
-says-one (check ∷ later) settled m n p q (inl h) (inl k) =
-    (h .1 ∙ sym (k .1), λ other. settled .0 (λ is. other (h .1 ∙ is)) p q (h .2) (k .2))
-says-one (check ∷ later) settled m n p q (inl h) (inr k) = absurd (k .0 (h .0))
-says-one (check ∷ later) settled m n p q (inr h) (inl k) = absurd (h .0 (k .0))
-says-one (check ∷ later) settled m n p q (inr h) (inr k) = says-one later (settled .1) m n p q (h .1) (k .1)
-
--- ── What is true of each check is true of the answer ──
-
-stops-so :
-    (P : ℕ → ℕ → Type 0) (checks : Sequence) → All (λ c. (place : ℕ) → c .placed place → P (c .number) place) checks →
-    (number place : ℕ) → Stops checks number place → P number place
-stops-so P [] each-so m p h = absurd h
-stops-so P (check ∷ later) each-so m p (inl h) = subst (λ (k : ℕ). P k p) (sym (h .1)) (each-so .0 p (h .2))
-stops-so P (check ∷ later) each-so m p (inr h) = stops-so P later (each-so .1) m p (h .1)
-
-pub answers-so :
-    (P : ℕ → ℕ → Type 0) (checks : Sequence) (r : Refusal) → All (λ c. (place : ℕ) → c .placed place → P (c .number) place) checks →
-    Follows checks r → r .number ≢ 0 → P (r .number) (r .place)
-answers-so P checks r each-so (passing none h) some = absurd (some none)
-answers-so P checks r each-so (stopping some′ h) some = stops-so P checks each-so (r .number) (r .place) h
-
-low-numbers : (checks : Sequence) → All Earlier checks → All (λ c. (place : ℕ) → c .placed place → c .number < 13) checks
-low-numbers [] h = tt
-low-numbers (check ∷ later) h = (λ place here. h .0 .1, low-numbers later (h .1))
-
--- a chain that follows earlier checks gives none of 13 to 15
-pub earlier-low : (checks : Sequence) (r : Refusal) → All Earlier checks → Follows checks r → r .number < 13
-earlier-low checks r earlier follows = go (zero-or-not (r .number))
-  where
-    go : (r .number ≡ 0) ⊎ (r .number ≢ 0) → r .number < 13
-    go (inl none) = omega arith
-    go (inr some) = answers-so (λ number place. number < 13) checks r (low-numbers checks earlier) follows some
+pub says-one : (checks : Sequence) (m n p q : ℕ) → Says checks m p → Says checks n q → (m ≡ n) × (p ≡ q)
+says-one [] m n p q h k = (h .0 ∙ sym (k .0), h .1 ∙ sym (k .1))
+says-one (check ∷ later) m n p q (inl h) (inl k) = (h .1 ∙ sym (k .1), h .2 ∙ sym (k .2))
+says-one (check ∷ later) m n p q (inl h) (inr k) = absurd (k .0 (h .0))
+says-one (check ∷ later) m n p q (inr h) (inl k) = absurd (h .0 (k .0))
+says-one (check ∷ later) m n p q (inr h) (inr k) = says-one later m n p q (h .1) (k .1)

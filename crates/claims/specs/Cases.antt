@@ -1,7 +1,6 @@
--- Document 01, "Example desk": "Cases marked P are proved together as one listed set with one theorem over the list." All of them,
--- over bytes and answers; proofs/Cases.antt proves that they hold.
+-- Document 01, "Example desk": "Cases marked P are proved together as one listed set with one theorem over the list." All of them, and one for 02 (iv), over
+-- bytes and answers; proofs/Cases.antt proves that they hold.
 use mathlib.Core.Path.{_≡_}
-use mathlib.Core.Logic.{_↔_}
 use mathlib.Core.List.{List, [], _∷_, _++_, List·Memᴰ}
 use Prim.Native.Nat.{ℕ, _≤_}
 use lib.IntN.{ℤ, pos, negsuc}
@@ -15,7 +14,7 @@ use Rattle.least_delays.specs.LeastDelays.{delaysRefusal, delaysAfter}
 use Rattle.redundant.specs.Redundant.{redundantOf}
 use Rattle.timetable.specs.Timetable.{timetableRefusal, timetableAfter}
 use Rattle.verdict.specs.declared.ProposalVerdict.{ProposalVerdict}
-use Rattle.verdict.specs.Verdict.{VerdictAnswer}
+use Rattle.verdict.specs.Verdict.{verdictOf}
 use Rattle.stages.specs.Stages.{writtenInto}
 use Rattle.plan.specs.Plan.{planAnswerOf, planAfter}
 
@@ -33,8 +32,6 @@ pub data Case : Type 0 where
   plan : (graph : List ℕ) (es : List Edge) (steps latency : ℕ) → Case
   -- the verdict on a proposal beside a graph
   verdict : (graph proposal : List ℕ) (answer : ProposalVerdict) → Case
-  -- a verdict of 13, with one of several places
-  on-cycle : (graph proposal places : List ℕ) → Case
 
 -- a call that refuses nothing
 abbrev pub success : Outcome
@@ -49,8 +46,7 @@ abbrev pub refused : ℕ → ℕ → ℕ → ℤ → ProposalVerdict
 refused number place latency margin =
     record { outcome = record { number = number; place = place; latency = latency; margin = margin }; latency = 0; margin = pos 0 }
 
--- A case holds: the call succeeds and writes this at the front of every lent list that is long enough, or this is what the contract lets it answer,
--- and nothing else.
+-- A case holds: the call succeeds and writes this at the front of every lent list that is long enough, or this is what it answers.
 abbrev pub Holds : Case → Type 0
 Holds (delays graph table) =
     (lent : List ℕ) → length table ≤ length lent →
@@ -63,9 +59,7 @@ Holds (plan graph es steps latency) =
     (lent : List EdgeRecord) → length (graphOf graph .syncs) ≤ length lent →
     (planAnswerOf graph (length lent) ≡ record { outcome = success; length = length es; steps = steps; latency = latency }) ×
     (planAfter graph lent ≡ writtenInto lent es)
-Holds (verdict graph proposal answer) = (r : ProposalVerdict) → VerdictAnswer graph proposal r ↔ (r ≡ answer)
-Holds (on-cycle graph proposal places) =
-    (r : ProposalVerdict) → VerdictAnswer graph proposal r ↔ ((place : ℕ) × List·Memᴰ place places × (r ≡ refused 13 place 0 (pos 0)))
+Holds (verdict graph proposal answer) = verdictOf graph proposal ≡ answer
 
 -- ── The desk and its proposals ──
 
@@ -98,6 +92,10 @@ delayed = 0x08 ∷ 0x04 ∷ 0x04 ∷ 0x20 ∷ 0x10 ∷ []
 -- 0→2 and 1→3, delay 0, and 3→0, delay 1
 abbrev pub loopedFile : List ℕ
 loopedFile = 0x08 ∷ 0x0C ∷ 0x00 ∷ 0x20 ∷ 0x00 ∷ 0x43 ∷ 0x00 ∷ 0x0C ∷ 0x00 ∷ 0x10 ∷ []
+
+-- 0→2, 2→3 and 1→3, delay 0, and 0→1, delay 1: the second and the fourth, each within a processor, lie on cycles, the others do not
+abbrev pub mixedFile : List ℕ
+mixedFile = 0x08 ∷ 0x10 ∷ 0x00 ∷ 0x20 ∷ 0x00 ∷ 0x83 ∷ 0x00 ∷ 0x04 ∷ 0x30 ∷ 0x00 ∷ 0x01 ∷ 0x01 ∷ []
 
 -- ── The list ──
 
@@ -133,8 +131,10 @@ cases =
     ∷ verdict exampleFile firstOnly (refused 14 2 0 (pos 0))
     -- "P 1→2 with delay 1: 14, place 1."
     ∷ verdict exampleFile delayed (refused 14 1 0 (pos 0))
-    -- "P 0→2, 1→3, and 3→0 with delay 1: 13, place 1, 2 or 3."
-    ∷ on-cycle exampleFile loopedFile (1 ∷ 2 ∷ 3 ∷ [])
+    -- "P 0→2, 1→3, and 3→0 with delay 1: 13, place 1, 2 or 3."; 02 (iv): "The example with 3→0 now has place 1 only"
+    ∷ verdict exampleFile loopedFile (refused 13 1 0 (pos 0))
+    -- not 01's: 13 with "the earliest proposed edge that lies on a cycle of the result" (02 (iv)), which is neither the first edge nor the last such one
+    ∷ verdict exampleFile mixedFile (refused 13 2 0 (pos 0))
     -- "P plan: 1→2, one step, latency 10."
     ∷ plan exampleFile (edge 1 2 0 ∷ []) 1 10
     -- "P at bound 9: 0→2, 1→3, no step." (Latency 9 is the graph's own, as "graph 4 3 9" says.)

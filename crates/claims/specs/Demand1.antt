@@ -13,7 +13,7 @@ use lib.IntN.{pos, negsuc, _-ℤ_}
 use lib.ListN.{length}
 use Rattle.model.specs.Tasks.{Task, Edge, _∈_, processorOf}
 use Rattle.model.specs.Graph.{Graph, edges, timeOf}
-use Rattle.model.specs.Paths.{Path, ZeroCycle, OnCycle, SomeLost, Latency}
+use Rattle.model.specs.Paths.{Path, ZeroCycle, OnCycle, OrderHeld, Latency}
 use Rattle.model.specs.Proposals.{result}
 use Rattle.bits.specs.Bits.{bitAt}
 use Rattle.layout.specs.declared.EdgeRecord.{EdgeRecord}
@@ -26,19 +26,16 @@ use Rattle.figures.specs.Figures.{figuresOf}
 use Rattle.least_delays.specs.LeastDelays.{delaysRefusal, delaysAfter}
 use Rattle.redundant.specs.Redundant.{redundantOf, noMarks}
 use Rattle.timetable.specs.Timetable.{timetableRefusal, timetableAfter}
-use Rattle.judgement.specs.Judgement.{OpenPlace}
-use Rattle.judgement.specs.Theorems.{FirstLost}
-use Rattle.verdict.specs.declared.ProposalVerdict.{ProposalVerdict}
-use Rattle.verdict.specs.Verdict.{VerdictAnswer}
+use Rattle.verdict.specs.Verdict.{verdictOf}
 use Rattle.plan.specs.Plan.{planAnswerOf, planAfter}
 
 -- ── Checks, and sequences of them ──
 
--- One check: its condition, its number, and what is true of the place that comes with the number.
+-- One check: its condition, its number, and the place that comes with the number.
 pub record Check : Type 1 where
   pub condition : Type 0
   pub number : ℕ
-  pub placed : ℕ → Type 0
+  pub place : ℕ
 
 abbrev pub Sequence : Type 1
 Sequence = List Check
@@ -47,16 +44,12 @@ Sequence = List Check
 abbrev pub Says : Sequence → ℕ → ℕ → Type 0
 Says [] number place = (number ≡ 0) × (place ≡ 0)
 Says (check ∷ later) number place =
-    (check .condition × (number ≡ check .number) × check .placed place) ⊎ ((check .condition → ⊥) × Says later number place)
+    (check .condition × (number ≡ check .number) × (place ≡ check .place)) ⊎ ((check .condition → ⊥) × Says later number place)
 
 -- `5 at v when c`: number 5 and place v, if c holds
-infix 3 _at_when_ _at-some_when_ _when_
+infix 3 _at_when_ _when_
 abbrev pub _at_when_ : ℕ → ℕ → Type 0 → Sequence
-m at p when c = record { condition = c; number = m; placed = λ place. place ≡ p } ∷ []
-
--- `13 at-some P when c`: number 13 and a place of which P is true, if c holds
-abbrev pub _at-some_when_ : ℕ → (ℕ → Type 0) → Type 0 → Sequence
-m at-some P when c = record { condition = c; number = m; placed = P } ∷ []
+m at p when c = record { condition = c; number = m; place = p } ∷ []
 
 -- `2 when c`: "Place, latency and margin are 0 unless named below."
 abbrev pub _when_ : ℕ → Type 0 → Sequence
@@ -107,12 +100,12 @@ abbrev pub BoundBelow : Graph → Type 0
 BoundBelow g = (l : ℕ) × Latency (edges g) (timeOf g) (g .output) l × (g .bound < l)
 
 -- "13: a proposed edge on a cycle" of the result
-abbrev pub CycleMade : Graph → List Edge → Type 0
-CycleMade g proposed = (e : Edge) × e ∈ proposed × OnCycle (edges (result g proposed)) e
+abbrev pub CycleMade : Graph → List Edge → Edge → Type 0
+CycleMade g proposed e = OnCycle (edges (result g proposed)) e
 
--- "14: an original order lost"
-abbrev pub SomeOrderLost : Graph → List Edge → Type 0
-SomeOrderLost g proposed = SomeLost (edges (result g proposed)) (edges g)
+-- "14: an original order lost": an original edge's ends have not "in the result a least delay at most that edge's own"
+abbrev pub OrderLost : Graph → List Edge → Edge → Type 0
+OrderLost g proposed e = OrderHeld (edges (result g proposed)) e → ⊥
 
 -- ── "Sequence" ──
 
@@ -168,11 +161,13 @@ proposalFileChecks n p =
     -- "then 8"
     then each (proposalHeader p .edges) (λ j. 8 at suc j when SameAsEarlier proposed j)
 
--- "13, 14, 15" of proposed edges: with 13 the place "is one such edge", with 14 "the first such graph edge"
+-- "13, 14, 15" of proposed edges
 unfoldable pub proposedChecks : Graph → List Edge → Sequence
 proposedChecks g proposed =
-    13 at-some OpenPlace g proposed when CycleMade g proposed
-    then 14 at-some FirstLost g proposed when SomeOrderLost g proposed
+    -- 02 (iv): "refusal 13 shall give the earliest proposed edge that lies on a cycle of the result"
+    each (length proposed) (λ j. 13 at suc j when CycleMade g proposed (edgeIn proposed j))
+    -- "place is the first such graph edge"; a processor edge is the result's own, so its order is never lost
+    then each (length (g .syncs)) (λ j. 14 at suc j when OrderLost g proposed (edgeIn (g .syncs) j))
     then 15 when BoundBelow (result g proposed)
 
 -- The delay table: "16: a lent list too short (tasks squared [..])", for a list of so much room
@@ -197,8 +192,8 @@ verdictChecks s p = graphChecks s then proposalFileChecks (taskCount s) p then p
 pub record Obeys (checks : Sequence) (o : Outcome) : Type 0 where
   -- "Each refusal is given if document 01's condition and sequence call for it"
   pub called-for : Says checks (o .number) (o .place)
-  -- "and never otherwise": the sequence says no other number, nor another place, but for 13
-  pub never-otherwise : (number place : ℕ) → Says checks number place → (number ≡ o .number) × (number ≢ 13 → place ≡ o .place)
+  -- "and never otherwise": the sequence says no other number, nor another place
+  pub never-otherwise : (number place : ℕ) → Says checks number place → (number ≡ o .number) × (place ≡ o .place)
   -- "Place, latency and margin are 0 unless named": only 15 names latency and margin
   pub unnamed : o .number ≢ 15 → (o .latency ≡ 0) × (o .margin ≡ pos 0)
   -- a call that is not refused has 0 in all four numbers
@@ -212,9 +207,8 @@ pub record LateTold (result : Graph) (o : Outcome) : Type 0 where
   pub negative : (k : ℕ) × (o .margin ≡ negsuc k)
 
 -- For all bytes s of a graph file, all bytes p of a proposal file, all numbers and all lent lists. By their contracts the calls answer `graphReading s`,
--- `proposalReading n p`, `figuresOf s`, `redundantOf s`, `outcome (delaysRefusal s room)`, `outcome (timetableRefusal s turns room)` and `planAnswerOf s room`,
--- where room is the length of the lent list, and leave `delaysAfter`, `timetableAfter` and `planAfter` in it; the verdict call answers an r with
--- `VerdictAnswer s p r`.
+-- `proposalReading n p`, `figuresOf s`, `redundantOf s`, `outcome (delaysRefusal s room)`, `outcome (timetableRefusal s turns room)`, `planAnswerOf s room` and
+-- `verdictOf s p`, where room is the length of the lent list, and leave `delaysAfter`, `timetableAfter` and `planAfter` in it.
 pub record Demand1 : Type 0 where
   -- the readings: 1 to 8 alone, of a proposal beside any number n of tasks; they tell number and place, and `outcome` puts 0 for latency and margin
   pub read-graph : (s : List ℕ) → Obeys (graphFileChecks s) (outcome (graphReading s .refusal))
@@ -238,10 +232,7 @@ pub record Demand1 : Type 0 where
       (s : List ℕ) (room : ℕ) → planAnswerOf s room .outcome .number ≢ 0 →
       (planAnswerOf s room .length ≡ 0) × (planAnswerOf s room .steps ≡ 0) × (planAnswerOf s room .latency ≡ 0)
   pub plan-kept : (s : List ℕ) (list : List EdgeRecord) → planAnswerOf s (length list) .outcome .number ≢ 0 → planAfter s list ≡ list
-  -- verdict: the contract allows some answer, so what is said of all answers is said of something
-  pub answered : (s p : List ℕ) → (r : ProposalVerdict) × VerdictAnswer s p r
-  -- of every answer that it allows, whatever place is given with 13
-  pub verdict : (s p : List ℕ) (r : ProposalVerdict) → VerdictAnswer s p r → Obeys (verdictChecks s p) (r .outcome)
-  pub verdict-refused : (s p : List ℕ) (r : ProposalVerdict) → VerdictAnswer s p r → r .outcome .number ≢ 0 → (r .latency ≡ 0) × (r .margin ≡ pos 0)
-  pub verdict-late :
-      (s p : List ℕ) (r : ProposalVerdict) → VerdictAnswer s p r → r .outcome .number ≡ 15 → LateTold (result (graphOf s) (proposalOf p)) (r .outcome)
+  -- verdict: a refused one has neither latency nor margin beside its outcome; with 15 the outcome has them
+  pub verdict : (s p : List ℕ) → Obeys (verdictChecks s p) (verdictOf s p .outcome)
+  pub verdict-refused : (s p : List ℕ) → verdictOf s p .outcome .number ≢ 0 → (verdictOf s p .latency ≡ 0) × (verdictOf s p .margin ≡ pos 0)
+  pub verdict-late : (s p : List ℕ) → verdictOf s p .outcome .number ≡ 15 → LateTold (result (graphOf s) (proposalOf p)) (verdictOf s p .outcome)

@@ -28,8 +28,7 @@ use Rattle.figures.specs.Figures.{figuresOf}
 use Rattle.least_delays.specs.LeastDelays.{delaysRefusal, delaysAfter}
 use Rattle.redundant.specs.Redundant.{redundantOf}
 use Rattle.timetable.specs.Timetable.{timetableRefusal, timetableAfter}
-use Rattle.verdict.specs.declared.ProposalVerdict.{ProposalVerdict}
-use Rattle.verdict.specs.Verdict.{VerdictAnswer}
+use Rattle.verdict.specs.Verdict.{verdictOf}
 use Rattle.stages.specs.Stages.{listed}
 use Rattle.plan.specs.Plan.{planAnswerOf, planAfter}
 
@@ -152,23 +151,20 @@ pub record Demand2 : Type 0 where
   -- ── Latency of the result of a proposal ──
   -- "Verdict: latency of the result": of a proposal that is accepted (by demand 3, exactly those that may be)
   pub judged-latency :
-      (s p : List ℕ) (r : ProposalVerdict) → VerdictAnswer s p r → r .outcome .number ≡ 0 →
-      Latency (edges (result (graphOf s) (proposalOf p))) (timeOf (graphOf s)) (graphOf s .output) (r .latency)
+      (s p : List ℕ) → verdictOf s p .outcome .number ≡ 0 →
+      Latency (edges (result (graphOf s) (proposalOf p))) (timeOf (graphOf s)) (graphOf s .output) (verdictOf s p .latency)
   -- "and margin, which is bound minus latency", here not negative
-  pub margin :
-      (s p : List ℕ) (r : ProposalVerdict) → VerdictAnswer s p r → r .outcome .number ≡ 0 →
-      r .margin ≡ pos (graphOf s .bound) -ℤ pos (r .latency)
+  pub margin : (s p : List ℕ) → verdictOf s p .outcome .number ≡ 0 → verdictOf s p .margin ≡ pos (graphOf s .bound) -ℤ pos (verdictOf s p .latency)
   pub in-time :
-      (s p : List ℕ) (r : ProposalVerdict) → VerdictAnswer s p r → r .outcome .number ≡ 0 →
-      (r .latency ≤ graphOf s .bound) × (r .margin ≡ pos (graphOf s .bound - r .latency))
+      (s p : List ℕ) → verdictOf s p .outcome .number ≡ 0 →
+      (verdictOf s p .latency ≤ graphOf s .bound) × (verdictOf s p .margin ≡ pos (graphOf s .bound - verdictOf s p .latency))
   -- "15: late; latency and the negative margin are given"
   pub late-latency :
-      (s p : List ℕ) (r : ProposalVerdict) → VerdictAnswer s p r → r .outcome .number ≡ 15 →
-      Latency (edges (result (graphOf s) (proposalOf p))) (timeOf (graphOf s)) (graphOf s .output) (r .outcome .latency)
+      (s p : List ℕ) → verdictOf s p .outcome .number ≡ 15 →
+      Latency (edges (result (graphOf s) (proposalOf p))) (timeOf (graphOf s)) (graphOf s .output) (verdictOf s p .outcome .latency)
   pub late-margin :
-      (s p : List ℕ) (r : ProposalVerdict) → VerdictAnswer s p r → r .outcome .number ≡ 15 →
-      r .outcome .margin ≡ pos (graphOf s .bound) -ℤ pos (r .outcome .latency)
+      (s p : List ℕ) → verdictOf s p .outcome .number ≡ 15 → verdictOf s p .outcome .margin ≡ pos (graphOf s .bound) -ℤ pos (verdictOf s p .outcome .latency)
   -- negative: `negsuc n` is −(n + 1)
   pub late-by :
-      (s p : List ℕ) (r : ProposalVerdict) → VerdictAnswer s p r → r .outcome .number ≡ 15 →
-      (graphOf s .bound < r .outcome .latency) × (r .outcome .margin ≡ negsuc (r .outcome .latency - graphOf s .bound - 1))
+      (s p : List ℕ) → verdictOf s p .outcome .number ≡ 15 →
+      (graphOf s .bound < verdictOf s p .outcome .latency) × (verdictOf s p .outcome .margin ≡ negsuc (verdictOf s p .outcome .latency - graphOf s .bound - 1))

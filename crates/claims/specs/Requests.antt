@@ -4,14 +4,20 @@ use mathlib.Core.Logic.{_↔_, _⊎_}
 use mathlib.Core.List.{List}
 use mathlib.Core.Option.{none, some}
 use Prim.Native.Nat.{ℕ, suc, _+_, _*_, _≤_, _<_}
+use lib.IntN.{pos}
 use lib.ListN.{length, getD}
 use Rattle.model.specs.Graph.{edges}
-use Rattle.model.specs.Paths.{Least}
-use Rattle.files.specs.Files.{graphOf}
+use Rattle.model.specs.Paths.{OnCycle, Least}
+use Rattle.files.specs.Files.{graphOf, proposalOf, edgeIn}
 use Rattle.delays.specs.Delays.{withRow, rowsFrom}
 use Rattle.acceptance.specs.Outcomes.{outcome, tasksOf}
+use Rattle.acceptance.specs.Theorems.{AcceptedFile}
 use Rattle.least_delays.specs.LeastDelays.{delaysRefusal, delaysAfter}
+use Rattle.verdict.specs.Verdict.{verdictOf}
+use Rattle.claims.specs.Demand1.{Says, verdictChecks}
 use Rattle.claims.specs.Demand2.{delayIn}
+use Rattle.claims.specs.Demand3.{WellFormedFile, resultGraph}
+use Rattle.claims.specs.Cases.{refused}
 
 -- what `delays::fill_row` leaves of a list, by its contract: row a of the table of a file's graph made in its part
 abbrev pub rowMade : List ℕ → ℕ → List ℕ → List ℕ
@@ -54,3 +60,24 @@ pub record RowByRow : Type 0 where
       × ((i : ℕ) → (i < a * tasksOf s) ⊎ (tasksOf s * tasksOf s ≤ i) → getD (madeFrom s a table) i 0 ≡ getD table i 0)
   -- "Every number .. is as today": after the row of task 0 the list is what the call leaves of it, by the contract it had before
   pub as-today : (s table : List ℕ) → outcome (delaysRefusal s (length table)) .number ≡ 0 → delaysAfter s table ≡ madeFrom s 0 table
+
+-- proposed edge number j, from 0, lies on a cycle of the result, and none before it does
+abbrev pub EarliestOnCycle : List ℕ → List ℕ → ℕ → Type 0
+EarliestOnCycle s p j =
+    (j < length (proposalOf p)) × OnCycle (edges (resultGraph s p)) (edgeIn (proposalOf p) j)
+    × ((i : ℕ) → i < j → OnCycle (edges (resultGraph s p)) (edgeIn (proposalOf p) i) → ⊥)
+
+-- (iv) "Users mend a proposal from the top, so refusal 13 shall give the earliest proposed edge that lies on a cycle of the result. The example with 3→0 now has
+-- place 1 only, and the rules then leave no answer open."
+--
+-- s and p are the bytes of a graph and of a proposal. The example is one of the listed cases; when 13 comes is as before, `thirteen` of demand 3.
+pub record FirstEdgeOnCycle : Type 0 where
+  -- "refusal 13 shall give the earliest proposed edge that lies on a cycle of the result"
+  pub earliest : (s p : List ℕ) → verdictOf s p .outcome .number ≡ 13 → (j : ℕ) × (verdictOf s p .outcome .place ≡ suc j) × EarliestOnCycle s p j
+  -- and where there is such an edge, of a well-formed proposal beside an accepted graph, the whole answer is this
+  pub given :
+      (s p : List ℕ) → AcceptedFile s → WellFormedFile s p → (j : ℕ) → EarliestOnCycle s p j → verdictOf s p ≡ refused 13 (suc j) 0 (pos 0)
+  -- "and the rules then leave no answer open": of number and place 01's conditions and sequence, with 13's place so, say one thing only, which is the answer's
+  pub settled :
+      (s p : List ℕ) (number place : ℕ) → Says (verdictChecks s p) number place →
+      (number ≡ verdictOf s p .outcome .number) × (place ≡ verdictOf s p .outcome .place)

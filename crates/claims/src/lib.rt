@@ -8,7 +8,7 @@ ghost use Rattle.figures.specs.Figures.{figuresOf};
 ghost use Rattle.least_delays.specs.LeastDelays.{delaysRefusal, delaysAfter};
 ghost use Rattle.redundant.specs.Redundant.{redundantOf};
 ghost use Rattle.timetable.specs.Timetable.{timetableRefusal, timetableAfter};
-ghost use Rattle.verdict.specs.Verdict.{VerdictAnswer};
+ghost use Rattle.verdict.specs.Verdict.{verdictOf};
 use acceptance::Outcome;
 use figures::GraphFigures;
 use redundant::RedundantSet;
@@ -46,7 +46,7 @@ pub fn timetable_promised(graph: &[u8], turns: u64, starts: &mut [u32]) -> Outco
 }
 
 pub fn verdict_promised(graph: &[u8], proposal: &[u8]) -> ProposalVerdict
-    ensures { λ r. ⌜ VerdictAnswer (now (graph .entry)) (now (proposal .entry)) r ⌝ }
+    ensures { λ r. ⌜ r ≡ verdictOf (now (graph .entry)) (now (proposal .entry)) ⌝ }
 {
     resync_verdict(graph, proposal)
 }

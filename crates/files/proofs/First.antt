@@ -1,14 +1,16 @@
 -- The first refusal of a list of checks: a check that passes is left out, one that refuses is the answer. Over the places below n it is the one at
--- the place where every earlier one passes.
+-- the place where every earlier one passes; and where it goes by a test that decides something, that place is the first which has it.
 use mathlib.Core.Path.{_≡_, refl, sym, ap, _∙_, subst}
 use mathlib.Core.Logic.{_⊎_, inl, inr, _≢_}
 use mathlib.Core.Bool.{Bool, true, false}
 use mathlib.Core.List.{List, [], _∷_, _++_}
+use mathlib.Core.Option.{Option}
 use Prim.Native.Nat.{ℕ, zero, suc, _<_, _≤_}
 use native.Mathlib.Nat.{not-suc-le-zero}
 use native.Mathlib.Omega.{arith}
 use Rattle.model.specs.Lists.{tabulate}
-use Rattle.model.proofs.Basics.{below-suc}
+use Rattle.model.specs.Theorems.{Decides}
+use Rattle.model.proofs.Basics.{is-true, is-false, order, below-suc, FirstFrom, found, missing, first-from}
 use Rattle.model.proofs.Tests.{decided, eqb-decides}
 use Rattle.files.specs.declared.Refusal.{Refusal}
 use Rattle.files.specs.Refusals.{notRefused, refuse, choose, first, ifPassed}
@@ -105,6 +107,59 @@ stops-at n f {k} below none is some = at-place n f k below none (λ z. some (num
 -- a search that ends after place n
 pub stops-nowhere : (n : ℕ) (f : ℕ → Refusal) {k : ℕ} → n ≤ k → ((i : ℕ) → i < k → f i ≡ notRefused) → firstOf n f ≡ notRefused
 stops-nowhere n f end none = nowhere n f (λ i l. none i (omega arith))
+
+-- ── A search by one test ──
+
+module _ (n number : ℕ) (test : ℕ → Bool) where
+  pub found-first :
+      number ≢ 0 → (j : ℕ) → j < n → ((i : ℕ) → i < j → test i ≡ false) → test j ≡ true →
+      firstOf n (λ i. refuse (test i) number (suc i)) ≡ record { number = number; place = suc j }
+  found-first some j below none is =
+      stops-at n (λ i. refuse (test i) number (suc i)) below (λ i l. not-refused number (suc i) (none i l)) (refused number (suc j) is) some
+
+  pub found-nowhere : ((i : ℕ) → i < n → test i ≡ false) → firstOf n (λ i. refuse (test i) number (suc i)) ≡ notRefused
+  found-nowhere none = nowhere n (λ i. refuse (test i) number (suc i)) (λ i l. not-refused number (suc i) (none i l))
+
+-- what is looked for stands at no place and nothing is refused, or the refusal is that of the first place where it stands
+pub data Finds (n number : ℕ) (P : ℕ → Type 0) (r : Refusal) : Type 0 where
+  at-none : ((j : ℕ) → j < n → P j → ⊥) → r ≡ notRefused → Finds n number P r
+  at-first : (j : ℕ) → j < n → P j → ((i : ℕ) → i < j → P i → ⊥) → r ≡ record { number = number; place = suc j } → Finds n number P r
+
+pub finds :
+    (n number : ℕ) (test : ℕ → Bool) {P : ℕ → Type 0} → number ≢ 0 → ((j : ℕ) → j < n → Decides (test j) (P j)) →
+    Finds n number P (firstOf n (λ i. refuse (test i) number (suc i)))
+finds n number test {P} some decides = go (first-from test 0 n)
+  where
+    go : {o : Option ℕ} → FirstFrom test 0 n o → Finds n number P (firstOf n (λ i. refuse (test i) number (suc i)))
+    go (found {u = u} from below holds none) =
+        at-first u (omega arith) (decides u (omega arith) .if-true holds) (λ i l. decides i (omega arith) .if-false (none i (omega arith) l))
+        (found-first n number test some u (omega arith) (λ i l. is-false (test i) (none i (omega arith) l)) (is-true (test u) holds))
+    go (missing all) =
+        at-none (λ j l. decides j l .if-false (all j (omega arith) (omega arith)))
+        (found-nowhere n number test (λ i l. is-false (test i) (all i (omega arith) (omega arith))))
+
+module _ {n number : ℕ} {P : ℕ → Type 0} {r : Refusal} where
+  pub nothing-there : Finds n number P r → ((j : ℕ) → j < n → P j → ⊥) → r ≡ notRefused
+  nothing-there (at-none none is) clear = is
+  nothing-there (at-first j below there none is) clear = absurd (clear j below there)
+
+  pub first-there :
+      Finds n number P r → (j : ℕ) → j < n → P j → ((i : ℕ) → i < j → P i → ⊥) → r ≡ record { number = number; place = suc j }
+  first-there (at-none none is) j below there earlier = absurd (none j below there)
+  first-there (at-first k inside stands before is) j below there earlier = is ∙ ap (λ (i : ℕ). record { number = number; place = suc i }) (same (order j k) (order k j))
+    where
+      same : (j ≤ k) ⊎ (k < j) → (k ≤ j) ⊎ (j < k) → k ≡ j
+      same (inr l) other = absurd (earlier k l stands)
+      same (inl l) (inr m) = absurd (before j m there)
+      same (inl l) (inl m) = omega arith
+
+  pub nothing-found : Finds n number P r → number ≢ 0 → r .number ≡ 0 → (j : ℕ) → j < n → P j → ⊥
+  nothing-found (at-none clear is) some none = clear
+  nothing-found (at-first j below there first-there is) some none = absurd (some (number-same (sym is) ∙ none))
+
+  pub number-found : Finds n number P r → r .number ≢ 0 → r .number ≡ number
+  number-found (at-none none is) some = absurd (some (number-same is))
+  number-found (at-first j below there none is) some = number-same is
 
 -- a check that was made: the chain ends with it, or goes on
 pub ends-with : {r q : Refusal} (rs : List Refusal) → r ≡ q → r .number ≢ 0 → first (q ∷ rs) ≡ r

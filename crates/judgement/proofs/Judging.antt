@@ -2,7 +2,7 @@
 -- its edges, so the searches by their paths and their delays find what the tests of 13 and 14 say.
 use mathlib.Core.Path.{_≡_, refl, sym, ap, _∙_, subst}
 use mathlib.Core.Logic.{_⊎_, inl, inr, _≢_}
-use mathlib.Core.Bool.{Bool, true, false, not}
+use mathlib.Core.Bool.{Bool, false, not}
 use mathlib.Core.List.{List, [], _∷_, _++_}
 use Prim.Native.Nat.{ℕ, zero, suc, _+_, _-_, _≤_, _<_}
 use native.Mathlib.Nat.{sub-zero}
@@ -15,7 +15,7 @@ use Rattle.model.specs.Lists.{counted, tabulate}
 use Rattle.model.specs.Tasks.{Edge, _∈_, Ends, noEdge, processorOf}
 use Rattle.model.specs.Processors.{processorEdges}
 use Rattle.model.specs.Graph.{Graph, WellFormed, count, edges, timeOf}
-use Rattle.model.specs.Paths.{AllHeld, syncAt}
+use Rattle.model.specs.Paths.{NoneOnCycle, syncAt}
 use Rattle.model.specs.Compute.{leastDelay, present, onCycle, orderHolds, latency, latencyOf, zeroCycle}
 use Rattle.model.specs.Proposals.{result}
 use Rattle.model.proofs.Processors.{processor-around}
@@ -30,7 +30,7 @@ use Rattle.records.proofs.Ordered.{sync-place}
 use Rattle.files.specs.declared.Refusal.{Refusal}
 use Rattle.files.specs.Files.{edgeIn, firstOf}
 use Rattle.files.specs.Refusals.{refuse, notRefused, first}
-use Rattle.files.proofs.First.{number-same}
+use Rattle.files.proofs.First.{number-same, number-found}
 use Rattle.readings.specs.declared.GraphReading.{GraphReading}
 use Rattle.readings.specs.declared.ProposalReading.{ProposalReading}
 use Rattle.readings.specs.Theorems.{HeldEdges}
@@ -45,11 +45,10 @@ use Rattle.acceptance.specs.Acceptance.{AcceptedReading}
 use Rattle.acceptance.proofs.Fronts.{front, frontEdges, lent}
 use Rattle.acceptance.proofs.Readings.{front-length, graph-fronts, few-tasks, as-many-edges, original-fit}
 use Rattle.judgement.specs.declared.Judgement.{Judgement}
-use Rattle.judgement.specs.Judgement.{someOnCycle, lostRefusal, judgedRefusal, tellsLatency, judgement, OpenPlace}
-use Rattle.judgement.specs.Searches.{FoundCyclic, nowhere, somewhere, lostFrom, Judgeable, Made, lostIn, lateIn}
-use Rattle.judgement.specs.Theorems.{FirstLost}
-use Rattle.judgement.proofs.Chain.{stops-13, stops-14, stops-15, passed, some-found, none-found}
-use Rattle.judgement.proofs.Tested.{result-fit, open-place, zero-cycle-false, orders-searched, search-passes, search-stops}
+use Rattle.judgement.specs.Judgement.{cycleRefusal, lostRefusal, judgedRefusal, tellsLatency, judgement}
+use Rattle.judgement.specs.Searches.{firstCyclic, lostFrom, Judgeable, Made, lostIn, lateIn}
+use Rattle.judgement.proofs.Chain.{cyclesSearched, ordersSearched, stops-13, stops-14, stops-15, passed}
+use Rattle.judgement.proofs.Tested.{result-fit, cycles-found, off-cycles-pass, passed-off-cycles, orders-found, held-pass, passed-held, zero-cycle-false}
 
 -- ── The proposed edges, and the result's, in lists ──
 
@@ -303,107 +302,67 @@ module _ {graph : GraphReading} {proposal : ProposalReading} (judgeable : Judgea
       ap (onCycle (count (graphIn graph)) (edges (result (graphIn graph) proposed))) (proposed-at j below) ∙
       ap (λ (n : ℕ). present (leastDelay n (edges (result (graphIn graph) proposed)) (getD (front (proposal .edges) (proposal .sink)) j 0) (getD (front (proposal .edges) (proposal .source)) j 0))) (sym (graph-fronts given .tasks-are))
 
-  module _ {place : ℕ} (found-on : FoundCyclic (length (processor given)) (edges (result (graphIn graph) proposed)) (front (proposal .edges) (proposal .source)) (front (proposal .edges) (proposal .sink)) place) where
-    found : FoundCyclic (graph .tasks) (edges (result (graphIn graph) proposed)) (front (proposal .edges) (proposal .source)) (front (proposal .edges) (proposal .sink)) place
-    found =
-        subst (λ (n : ℕ). FoundCyclic n (edges (result (graphIn graph) proposed)) (front (proposal .edges) (proposal .source)) (front (proposal .edges) (proposal .sink)) place)
-        (as-many-processors given) found-on
-
-    inside : (j : ℕ) → j < length (front (proposal .edges) (proposal .source)) → j < length proposed
-    inside j below = subst (λ (n : ℕ). j < n) (proposed-fronts .as-many) below
-
-    pub cycle-found : place ≢ 0 → (someOnCycle (graphIn graph) proposed ≡ true) × OpenPlace (graphIn graph) proposed place
-    cycle-found some = go found
-      where
-        go : FoundCyclic (graph .tasks) (edges (result (graphIn graph) proposed)) (front (proposal .edges) (proposal .source)) (front (proposal .edges) (proposal .sink)) place →
-            (someOnCycle (graphIn graph) proposed ≡ true) × OpenPlace (graphIn graph) proposed place
-        go (nowhere is none) = absurd (some is)
-        go (somewhere j is below cyclic) =
-            let there = inside j below in
-            let on : onCycle (count (graphIn graph)) (edges (result (graphIn graph) proposed)) (edgeIn proposed j) ≡ true = found-at j there ∙ cyclic in
-            (some-found (graphIn graph) proposed j there on, subst (OpenPlace (graphIn graph) proposed) (sym is) (open-place (graphIn graph) proposed (given .accepted .formed) (judgeable .formed) j there on))
-
-    pub no-cycle-found : place ≡ 0 → someOnCycle (graphIn graph) proposed ≡ false
-    no-cycle-found none = go found
-      where
-        go : FoundCyclic (graph .tasks) (edges (result (graphIn graph) proposed)) (front (proposal .edges) (proposal .source)) (front (proposal .edges) (proposal .sink)) place →
-            someOnCycle (graphIn graph) proposed ≡ false
-        go (nowhere is all) =
-            none-found (graphIn graph) proposed (λ j below. found-at j below ∙ all j (subst (λ (n : ℕ). j < n) (sym (proposed-fronts .as-many)) below))
-        go (somewhere j is below cyclic) = let z : suc j ≡ 0 = sym is ∙ none in absurd (omega arith)
+  pub cycle-is :
+      firstCyclic (length (processor given)) (edges (result (graphIn graph) proposed)) (front (proposal .edges) (proposal .source)) (front (proposal .edges) (proposal .sink))
+      ≡ cyclesSearched (graphIn graph) proposed
+  unfolding firstCyclic cycleRefusal
+  cycle-is =
+      let source = front (proposal .edges) (proposal .source) in
+      let sink = front (proposal .edges) (proposal .sink) in
+      let rs = edges (result (graphIn graph) proposed) in
+      (λ i. firstOf (proposed-fronts .as-many i) (λ j. refuse (present (leastDelay (as-many-processors given i) rs (at sink j) (at source j))) 13 (suc j))) ∙
+      first-same (length proposed) (λ j. refuse (present (leastDelay (graph .tasks) rs (at sink j) (at source j))) 13 (suc j)) (cycleRefusal (graphIn graph) proposed)
+      (λ j below. ap (λ (b : Bool). refuse b 13 (suc j)) (sym (found-at j below)))
 
   -- ── The chain ──
 
   -- a judgement from its refusal
-  judged : (place : ℕ) {refusal : Refusal} → judgedRefusal (graphIn graph) proposed place ≡ refusal → (l : ℕ) →
-      l ≡ counted (tellsLatency (refusal .number)) (latencyOf (result (graphIn graph) proposed)) → record { refusal = refusal; latency = l } ≡ judgement (graphIn graph) proposed place
+  judged : {refusal : Refusal} → judgedRefusal (graphIn graph) proposed ≡ refusal → (l : ℕ) →
+      l ≡ counted (tellsLatency (refusal .number)) (latencyOf (result (graphIn graph) proposed)) → record { refusal = refusal; latency = l } ≡ judgement (graphIn graph) proposed
   unfolding judgement
-  judged place {refusal} is l told =
+  judged {refusal} is l told =
       (λ i. record { refusal = refusal; latency = told i }) ∙
       (λ i. record { refusal = sym is i; latency = counted (tellsLatency (sym is i .number)) (latencyOf (result (graphIn graph) proposed)) })
 
-  module _ {cycle : Refusal} (is : cycle ≡ refuse (someOnCycle (graphIn graph) proposed) 13 (cycle .place)) where
-    cycle-by : {b : Bool} → someOnCycle (graphIn graph) proposed ≡ b → cycle ≡ refuse b 13 (cycle .place)
-    cycle-by on = is ∙ ap (λ (b : Bool). refuse b 13 (cycle .place)) on
+  module _ {cycle : Refusal} (is : cycle ≡ cyclesSearched (graphIn graph) proposed) where
+    pub no-cycle : cycle .number ≡ 0 → NoneOnCycle (edges (result (graphIn graph) proposed)) proposed
+    no-cycle none = passed-off-cycles (graphIn graph) proposed (given .accepted .formed) (judgeable .formed) (number-same (sym is) ∙ none)
 
-    pub no-cycle : cycle .number ≡ 0 → someOnCycle (graphIn graph) proposed ≡ false
-    unfolding refuse
-    no-cycle none = go (someOnCycle (graphIn graph) proposed) refl
-      where
-        go : (b : Bool) → someOnCycle (graphIn graph) proposed ≡ b → someOnCycle (graphIn graph) proposed ≡ false
-        go false off = off
-        go true on = let z : _≡_ {A = ℕ} 13 0 = number-same (sym (cycle-by on)) ∙ none in absurd (omega arith)
-
-    pub judged-13 : cycle .number ≢ 0 → record { refusal = cycle; latency = 0 } ≡ judgement (graphIn graph) proposed (cycle .place)
-    unfolding refuse counted tellsLatency
-    judged-13 some = go (someOnCycle (graphIn graph) proposed) refl
-      where
-        go : (b : Bool) → someOnCycle (graphIn graph) proposed ≡ b → record { refusal = cycle; latency = 0 } ≡ judgement (graphIn graph) proposed (cycle .place)
-        go false off = absurd (some (number-same (cycle-by off)))
-        go true on =
-            judged (cycle .place) (stops-13 (graphIn graph) proposed (cycle .place) on ∙ sym (cycle-by on)) 0
-            (ap (λ (m : ℕ). counted (tellsLatency m) (latencyOf (result (graphIn graph) proposed))) (sym (number-same (cycle-by on))))
+    pub judged-13 : cycle .number ≢ 0 → record { refusal = cycle; latency = 0 } ≡ judgement (graphIn graph) proposed
+    unfolding counted tellsLatency
+    judged-13 some =
+        let thirteen = number-found (cycles-found (graphIn graph) proposed (given .accepted .formed) (judgeable .formed)) (λ none. some (number-same is ∙ none)) in
+        judged (stops-13 (graphIn graph) proposed (sym is) some) 0
+        (ap (λ (m : ℕ). counted (tellsLatency m) (latencyOf (result (graphIn graph) proposed))) (sym (number-same is ∙ thirteen)))
 
   module _ {r : ResultEdges} (held : HeldResult r (edges (result (graphIn graph) proposed))) where
     pub made : Made graph proposed r
     made = record { formed = judgeable .formed; held = held }
 
-    pub off-cycles : someOnCycle (graphIn graph) proposed ≡ false → zeroCycle (count (graphIn graph)) (resultIn r) ≡ false
-    off-cycles none =
-        ap (λ (es : List Edge). zeroCycle (count (graphIn graph)) es) (held .held) ∙ zero-cycle-false (graphIn graph) proposed (given .accepted) (judgeable .formed) none
+    pub off-cycles : NoneOnCycle (edges (result (graphIn graph) proposed)) proposed → zeroCycle (count (graphIn graph)) (resultIn r) ≡ false
+    off-cycles off =
+        ap (λ (es : List Edge). zeroCycle (count (graphIn graph)) es) (held .held) ∙ zero-cycle-false (graphIn graph) proposed (given .accepted) (judgeable .formed) off
 
-    module _ {lost : Refusal} (none : someOnCycle (graphIn graph) proposed ≡ false) (is : lost ≡ lostIn (graphIn graph) (resultIn r)) where
-      first-is : firstOf (length (graphIn graph .syncs)) (lostRefusal (graphIn graph) proposed) ≡ lost
+    module _ {lost : Refusal} (off : NoneOnCycle (edges (result (graphIn graph) proposed)) proposed) (is : lost ≡ lostIn (graphIn graph) (resultIn r)) where
+      off-cycle : cyclesSearched (graphIn graph) proposed ≡ notRefused
+      off-cycle = off-cycles-pass (graphIn graph) proposed (given .accepted .formed) (judgeable .formed) off
+
+      first-is : ordersSearched (graphIn graph) proposed ≡ lost
       unfolding lostRefusal lostIn
       first-is = sym (is ∙ ap (lostIn (graphIn graph)) (held .held))
 
-      searched : AllHeld (edges (result (graphIn graph) proposed)) (edges (graphIn graph)) ⊎ ((place : ℕ) × FirstLost (graphIn graph) proposed place)
-      searched = orders-searched (graphIn graph) proposed (given .accepted .formed) (judgeable .formed)
-
-      pub lost-number : lost .number ≢ 0 → lost .number ≡ 14
-      lost-number some = go searched
-        where
-          go : AllHeld (edges (result (graphIn graph) proposed)) (edges (graphIn graph)) ⊎ ((place : ℕ) × FirstLost (graphIn graph) proposed place) → lost .number ≡ 14
-          go (inl kept) =
-              absurd (some (number-same (sym first-is ∙ search-passes (graphIn graph) proposed (given .accepted .formed) (judgeable .formed) kept)))
-          go (inr found) = number-same (sym first-is ∙ search-stops (graphIn graph) proposed (given .accepted .formed) (judgeable .formed) (found .1))
-
-      pub judged-14 : lost .number ≢ 0 → record { refusal = lost; latency = 0 } ≡ judgement (graphIn graph) proposed (lost .place)
+      pub judged-14 : lost .number ≢ 0 → record { refusal = lost; latency = 0 } ≡ judgement (graphIn graph) proposed
       unfolding counted tellsLatency
       judged-14 some =
-          judged (lost .place) (stops-14 (graphIn graph) proposed (lost .place) none first-is some) 0
-          (ap (λ (m : ℕ). counted (tellsLatency m) (latencyOf (result (graphIn graph) proposed))) (sym (lost-number some)))
+          let fourteen = number-found (orders-found (graphIn graph) proposed (given .accepted .formed) (judgeable .formed)) (λ none. some (number-same (sym first-is) ∙ none)) in
+          judged (stops-14 (graphIn graph) proposed off-cycle first-is some) 0
+          (ap (λ (m : ℕ). counted (tellsLatency m) (latencyOf (result (graphIn graph) proposed))) (sym (number-same (sym first-is) ∙ fourteen)))
 
       module _ (kept : lost .number ≡ 0) {last : Judgement} (late : last ≡ lateIn (graphIn graph) (resultIn r)) where
-        nothing-lost : firstOf (length (graphIn graph .syncs)) (lostRefusal (graphIn graph) proposed) ≡ notRefused
-        nothing-lost = go searched
-          where
-            go : AllHeld (edges (result (graphIn graph) proposed)) (edges (graphIn graph)) ⊎ ((place : ℕ) × FirstLost (graphIn graph) proposed place) →
-                firstOf (length (graphIn graph .syncs)) (lostRefusal (graphIn graph) proposed) ≡ notRefused
-            go (inl all) = search-passes (graphIn graph) proposed (given .accepted .formed) (judgeable .formed) all
-            go (inr found) =
-                let z : _≡_ {A = ℕ} 14 0 = number-same (sym (search-stops (graphIn graph) proposed (given .accepted .formed) (judgeable .formed) (found .1)) ∙ first-is) ∙ kept in
-                absurd (omega arith)
+        nothing-lost : ordersSearched (graphIn graph) proposed ≡ notRefused
+        nothing-lost =
+            held-pass (graphIn graph) proposed (given .accepted .formed) (judgeable .formed)
+            (passed-held (graphIn graph) proposed (given .accepted .formed) (judgeable .formed) (number-same first-is ∙ kept))
 
         abbrev l : ℕ
         l = latencyOf (result (graphIn graph) proposed)
@@ -415,18 +374,10 @@ module _ {graph : GraphReading} {proposal : ProposalReading} (judgeable : Judgea
             late ∙ (λ i. record { refusal = refuse (ltb (graphIn graph .bound) (latency (count (graphIn graph)) (held .held i) (timeOf (graphIn graph)) (graphIn graph .output))) 15 0; latency = latency (count (graphIn graph)) (held .held i) (timeOf (graphIn graph)) (graphIn graph .output) }) ∙
             (λ i. record { refusal = refuse (above i) 15 0; latency = l })
 
-        pub judged-last : (last ≡ judgement (graphIn graph) proposed (last .refusal .place)) × (last .refusal .number ≢ 13)
+        pub judged-last : last ≡ judgement (graphIn graph) proposed
         unfolding refuse counted tellsLatency
         judged-last = go (order l (graphIn graph .bound))
           where
-            go : (l ≤ graphIn graph .bound) ⊎ (graphIn graph .bound < l) → (last ≡ judgement (graphIn graph) proposed (last .refusal .place)) × (last .refusal .number ≢ 13)
-            go (inl within) =
-                let is = last-is (le-ltb (graphIn graph .bound) l within) in (
-                  subst (λ (x : Judgement). x ≡ judgement (graphIn graph) proposed (x .refusal .place)) (sym is) (judged 0 (passed (graphIn graph) proposed 0 none nothing-lost within) l refl),
-                  λ thirteen. let z : _≡_ {A = ℕ} 0 13 = ap (λ (x : Judgement). x .refusal .number) (sym is) ∙ thirteen in omega arith,
-                )
-            go (inr above) =
-                let is = last-is (lt-ltb (graphIn graph .bound) l above) in (
-                  subst (λ (x : Judgement). x ≡ judgement (graphIn graph) proposed (x .refusal .place)) (sym is) (judged 0 (stops-15 (graphIn graph) proposed 0 none nothing-lost above) l refl),
-                  λ thirteen. let z : _≡_ {A = ℕ} 15 13 = ap (λ (x : Judgement). x .refusal .number) (sym is) ∙ thirteen in omega arith,
-                )
+            go : (l ≤ graphIn graph .bound) ⊎ (graphIn graph .bound < l) → last ≡ judgement (graphIn graph) proposed
+            go (inl within) = last-is (le-ltb (graphIn graph .bound) l within) ∙ judged (passed (graphIn graph) proposed off-cycle nothing-lost within) l refl
+            go (inr above) = last-is (lt-ltb (graphIn graph .bound) l above) ∙ judged (stops-15 (graphIn graph) proposed off-cycle nothing-lost above) l refl

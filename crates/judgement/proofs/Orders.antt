@@ -10,8 +10,8 @@ use Rattle.model.specs.Tasks.{Edge}
 use Rattle.model.specs.Compute.{orderHolds}
 use Rattle.model.proofs.Tests.{decides-yes, decides-no, held-path, path-held}
 use Rattle.model.proofs.Theorems.{order-holds-is}
-use Rattle.files.specs.Refusals.{refuse, notRefused}
-use Rattle.files.proofs.First.{refused, not-refused, stops-at, stops-nowhere}
+use Rattle.files.specs.Refusals.{notRefused}
+use Rattle.files.proofs.First.{found-first, found-nowhere}
 use Rattle.records.specs.Columns.{heldEdge, edgesOf}
 use Rattle.reach.specs.Reach.{bit}
 use Rattle.delays.specs.Delays.{Fit}
@@ -61,21 +61,13 @@ module _ {n : ℕ} (source sink delay : List ℕ) (rs : List Edge) (fit : Fit n 
 
   -- ── The first order lost ──
 
-  not-lost : (i : ℕ) → held i ≡ true → refuse (not (held i)) 14 (suc i) ≡ notRefused
-  not-lost i is = not-refused 14 (suc i) (ap not is)
-
   pub first-lost :
       (j : ℕ) → n + j < length source → ((i : ℕ) → i < j → held i ≡ true) → held j ≡ false
       → record { number = 14; place = suc j } ≡ lostFrom n rs source sink delay
   unfolding lostFrom
   first-lost j below kept lost =
-      sym
-      (stops-at (length source - n) (λ i. refuse (not (held i)) 14 (suc i)) {k = j} {r = record { number = 14; place = suc j }} (omega arith)
-      (λ i earlier. not-lost i (kept i earlier)) (refused 14 (suc j) (ap not lost)) (λ z. omega arith))
+      sym (found-first (length source - n) 14 (λ i. not (held i)) (λ z. omega arith) j (omega arith) (λ i earlier. ap not (kept i earlier)) (ap not lost))
 
   pub none-lost : (j : ℕ) → length source ≤ n + j → ((i : ℕ) → i < j → held i ≡ true) → notRefused ≡ lostFrom n rs source sink delay
   unfolding lostFrom
-  none-lost j all kept =
-      sym
-      (stops-nowhere (length source - n) (λ i. refuse (not (held i)) 14 (suc i)) {k = length source - n} (omega arith)
-      (λ i earlier. not-lost i (kept i (omega arith))))
+  none-lost j all kept = sym (found-nowhere (length source - n) 14 (λ i. not (held i)) (λ i earlier. ap not (kept i (omega arith))))

@@ -1,8 +1,8 @@
 -- Only for contracts inside: what is judged, what the searches of 13 and 14 find, and 14 and 15 by the edges of a result.
 use mathlib.Core.Path.{_≡_}
-use mathlib.Core.Bool.{true, false, not}
+use mathlib.Core.Bool.{not}
 use mathlib.Core.List.{List}
-use Prim.Native.Nat.{ℕ, suc, _+_, _-_, _<_}
+use Prim.Native.Nat.{ℕ, suc, _+_, _-_}
 use lib.Dec.{ltb}
 use lib.ListN.{length}
 use Rattle.model.specs.Tasks.{Edge}
@@ -22,12 +22,9 @@ use Rattle.results.specs.Results.{HeldResult}
 use Rattle.acceptance.specs.Acceptance.{AcceptedReading}
 use Rattle.judgement.specs.declared.Judgement.{Judgement}
 
--- r is the place, from 1, of an edge of two lists that lies on a cycle of rs, or 0 and none of them does
-pub data FoundCyclic (n : ℕ) (rs : List Edge) (source sink : List ℕ) (r : ℕ) : Type 0 where
-  nowhere :
-      r ≡ 0 → ((j : ℕ) → j < length source → present (leastDelay n rs (at sink j) (at source j)) ≡ false) → FoundCyclic n rs source sink r
-  somewhere :
-      (j : ℕ) → r ≡ suc j → j < length source → present (leastDelay n rs (at sink j) (at source j)) ≡ true → FoundCyclic n rs source sink r
+-- the first of the edges of two lists that lies on a cycle of rs: a path leads back from its sink to its source
+unfoldable pub firstCyclic : ℕ → List Edge → List ℕ → List ℕ → Refusal
+firstCyclic n rs source sink = firstOf (length source) (λ j. refuse (present (leastDelay n rs (at sink j) (at source j))) 13 (suc j))
 
 -- the first of the edges from entry n on whose order is lost in rs
 unfoldable pub lostFrom : ℕ → List Edge → List ℕ → List ℕ → List ℕ → Refusal

@@ -2,11 +2,10 @@
 use mathlib.Core.Path.{_≡_}
 use mathlib.Core.Logic.{_↔_}
 use mathlib.Core.List.{List}
-use Prim.Native.Nat.{ℕ, suc, _<_}
-use lib.ListN.{length}
+use Prim.Native.Nat.{ℕ}
 use Rattle.model.specs.Tasks.{Edge, _∈_}
 use Rattle.model.specs.Graph.{Graph, WellFormedEdges, count, edges, timeOf}
-use Rattle.model.specs.Paths.{OnCycle, NoneOnCycle, OrderHeld, Latency, syncAt}
+use Rattle.model.specs.Paths.{OnCycle, NoneOnCycle, Latency}
 use Rattle.model.specs.Runs.{RunsAllowed, SomeRunBreaks, MissesBound}
 use Rattle.model.specs.Compute.{latencyOf}
 use Rattle.model.specs.Proposals.{result, AcceptedGraph, AcceptedProposal}
@@ -26,30 +25,17 @@ pub data Sentenced (g : Graph) (proposed : List Edge) : ℕ → Type 0 where
       {m : ℕ} → m ≡ 0 → NoneOnCycle (edges (result g proposed)) proposed →
       RunsAllowed (count g) (edges (result g proposed)) (edges g) → (MissesBound (result g proposed) → ⊥) → Sentenced g proposed m
 
--- Proposed edges get a number of 13 to 15, or 0, exactly if the result's cycles, runs and lateness call for it; whatever place comes with 13.
+-- Proposed edges get a number of 13 to 15, or 0, exactly if the result's cycles, runs and lateness call for it.
 abbrev pub SentencedIff : Type 0
 SentencedIff =
     (g : Graph) (proposed : List Edge) → AcceptedGraph g → WellFormedEdges (count g) proposed →
-    (place m : ℕ) → (judgedRefusal g proposed place .number ≡ m) ↔ Sentenced g proposed m
+    (m : ℕ) → (judgedRefusal g proposed .number ≡ m) ↔ Sentenced g proposed m
 
 -- They are accepted exactly if they are so by 01's own conditions, on paths.
 abbrev pub AcceptedByPaths : Type 0
 AcceptedByPaths =
     (g : Graph) (proposed : List Edge) → AcceptedGraph g → WellFormedEdges (count g) proposed →
-    (place : ℕ) → (judgedRefusal g proposed place .number ≡ 0) ↔ AcceptedProposal g proposed
-
--- "14: an original order lost; place is the first such graph edge."
-pub record FirstLost (g : Graph) (proposed : List Edge) (place : ℕ) : Type 0 where
-  pub before : ℕ
-  pub place-is : place ≡ suc before
-  pub present : before < length (g .syncs)
-  pub lost : OrderHeld (edges (result g proposed)) (syncAt g before) → ⊥
-  pub held-earlier : (j : ℕ) → j < before → OrderHeld (edges (result g proposed)) (syncAt g j)
-
-abbrev pub LostPlace : Type 0
-LostPlace =
-    (g : Graph) (proposed : List Edge) → AcceptedGraph g → WellFormedEdges (count g) proposed →
-    (place : ℕ) → judgedRefusal g proposed place .number ≡ 14 → FirstLost g proposed (judgedRefusal g proposed place .place)
+    (judgedRefusal g proposed .number ≡ 0) ↔ AcceptedProposal g proposed
 
 -- The latency that is told is that of the result, where no proposed edge lies on a cycle of it.
 abbrev pub JudgedLatency : Type 0

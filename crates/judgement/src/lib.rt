@@ -9,14 +9,14 @@ ghost use Rattle.model.specs.Graph.{count, edges};
 ghost use Rattle.model.specs.Compute.{zeroCycle};
 ghost use Rattle.model.specs.Proposals.{result};
 ghost use Rattle.records.specs.Columns.{edgesOf, at};
-ghost use Rattle.files.specs.Refusals.{refuse};
+ghost use Rattle.files.specs.Files.{firstOf};
 ghost use Rattle.readings.specs.Working.{graphIn, proposedIn};
 ghost use Rattle.reach.specs.Reach.{ReachesOn};
 ghost use Rattle.delays.specs.Delays.{Fit};
 ghost use Rattle.results.specs.Results.{resultIn, HeldResult};
 ghost use Rattle.acceptance.specs.Acceptance.{AcceptedReading};
-ghost use Rattle.judgement.specs.Judgement.{someOnCycle, judgement, OpenPlace};
-ghost use Rattle.judgement.specs.Searches.{FoundCyclic, lostFrom, Judgeable, Made, lostIn, lateIn};
+ghost use Rattle.judgement.specs.Judgement.{cycleRefusal, judgement};
+ghost use Rattle.judgement.specs.Searches.{firstCyclic, lostFrom, Judgeable, Made, lostIn, lateIn};
 use delays::FAR;
 use delays::WIDTH;
 use delays::finish_row;
@@ -42,23 +42,29 @@ const LATE: Refusal = Refusal {
     place: 0,
 };
 
-// The place of an edge that lies on a cycle, counted from 1, or 0 if none does: by between which processors paths lead in the graph that has them.
-fn cyclic_place<'a>(source: &'a [u8], sink: &'a [u8], processor: &'a [u8], words: &'a [u64]) -> u32
+// 13: the first of some edges that lies on a cycle, by between which processors paths lead in the graph that has them.
+fn cyclic_edge<'a>(
+    source: &'a [u8],
+    sink: &'a [u8],
+    processor: &'a [u8],
+    words: &'a [u64],
+) -> Refusal
     requires { ⌜ (length (now sink) ≡ length (now source)) × (length (now source) ≤ 256) × (length (now words) ≡ 16) ⌝ }
     requires { ⌜ ((v : ℕ) → v < length (now processor) → at (now processor) v < 16) ⌝ }
     requires { ⌜ ((j : ℕ) → j < length (now source) → (at (now source) j < length (now processor)) × (at (now sink) j < length (now processor))) ⌝ }
-    ensures { λ r. ⌜ ((rs : List Edge) → ReachesOn (length (now (processor .entry))) rs (now (processor .entry)) (now (words .entry)) → FoundCyclic (length (now (processor .entry))) rs (now (source .entry)) (now (sink .entry)) r) ⌝ }
+    ensures { λ r. ⌜ ((rs : List Edge) → ReachesOn (length (now (processor .entry))) rs (now (processor .entry)) (now (words .entry)) → r ≡ firstCyclic (length (now (processor .entry))) rs (now (source .entry)) (now (sink .entry))) ⌝ }
 {
     let mut j = 0;
     while j < source.len() {
         let from = processor_of(processor, source[j]);
         let to = processor_of(processor, sink[j]);
         if leads_to(words, to, from) {
-            return j as u32 + 1;
+            let place = j as u32 + 1;
+            return Refusal { number: 13, place };
         }
         j += 1;
     }
-    0
+    PASSED
 }
 
 // 14: the first edge of a graph's file whose order is lost in the result. An edge of the result with the same ends and no more delay holds an order; where
@@ -127,12 +133,11 @@ fn made_result(graph: GraphReading, proposal: ProposalReading) -> ResultEdges
     )
 }
 
-// 13: a proposed edge on a cycle of the result.
+// 13: the first proposed edge that lies on a cycle of the result.
 fn cycle_refusal(graph: GraphReading, proposal: ProposalReading, made: ResultEdges) -> Refusal
     requires { ⌜ Judgeable graph proposal ⌝ }
     requires { ⌜ HeldResult made (edges (result (graphIn graph) (proposedIn proposal))) ⌝ }
-    ensures refusal { λ r. ⌜ r ≡ refuse (someOnCycle (graphIn graph) (proposedIn proposal)) 13 (r .place) ⌝ }
-    ensures place { λ r. ⌜ (r .number ≡ 13 → OpenPlace (graphIn graph) (proposedIn proposal) (r .place)) ⌝ }
+    ensures { λ r. ⌜ r ≡ firstOf (length (proposedIn proposal)) (cycleRefusal (graphIn graph) (proposedIn proposal)) ⌝ }
 {
     let tasks = graph.tasks as usize;
     let proposed = proposal.edges as usize;
@@ -144,16 +149,12 @@ fn cycle_refusal(graph: GraphReading, proposal: ProposalReading, made: ResultEdg
     let words = reach.words;
     let proposed_source = proposal.source;
     let proposed_sink = proposal.sink;
-    let place = cyclic_place(
+    cyclic_edge(
         &proposed_source[0..proposed],
         &proposed_sink[0..proposed],
         &processor[0..tasks],
         &words,
-    );
-    if place != 0 {
-        return Refusal { number: 13, place };
-    }
-    PASSED
+    )
 }
 
 // 14: the first edge of the file whose order is lost in the result.
@@ -217,8 +218,7 @@ fn late_judgement(graph: GraphReading, made: ResultEdges) -> Judgement
 // Judges proposed edges beside an accepted graph: 13, 14, 15, in this sequence.
 pub fn judge(graph: GraphReading, proposal: ProposalReading) -> Judgement
     requires { ⌜ Judgeable graph proposal ⌝ }
-    ensures judged { λ r. ⌜ r ≡ judgement (graphIn graph) (proposedIn proposal) (r .refusal .place) ⌝ }
-    ensures place { λ r. ⌜ (r .refusal .number ≡ 13 → OpenPlace (graphIn graph) (proposedIn proposal) (r .refusal .place)) ⌝ }
+    ensures { λ r. ⌜ r ≡ judgement (graphIn graph) (proposedIn proposal) ⌝ }
 {
     let made = made_result(graph, proposal);
     let cycle = cycle_refusal(graph, proposal, made);

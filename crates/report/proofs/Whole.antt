@@ -18,8 +18,9 @@ use Rattle.figures.specs.Figures.{figuresOf}
 use Rattle.redundant.specs.declared.RedundantSet.{RedundantSet}
 use Rattle.redundant.specs.Redundant.{redundantOf}
 use Rattle.verdict.specs.declared.ProposalVerdict.{ProposalVerdict}
+use Rattle.verdict.specs.Verdict.{verdictOf}
 use Rattle.report.specs.declared.Text.{Text}
-use Rattle.report.specs.Report.{graphLine, redundantLine, acceptedLine, refusedLine, verdictLine, printed, textOf, Reported}
+use Rattle.report.specs.Report.{graphLine, redundantLine, acceptedLine, refusedLine, verdictLine, printed, textOf, reportOf}
 
 -- ── A text ──
 
@@ -48,12 +49,12 @@ pub text-within : (bytes : List ℕ) → textOf bytes .length ≤ length (textOf
 unfolding textOf
 text-within bytes = omega (arith, length-append bytes (replicate (1024 - length bytes) 0))
 
-pub reported-within : {s p : List ℕ} {text : Text} → Reported s p text → text .length ≤ length (text .bytes)
-reported-within {s} {p} {text} r =
-    subst (λ (t : Text). t .length ≤ length (t .bytes)) (sym (r .text-is)) (text-within (printed (figuresOf s) (redundantOf s) (r .verdict)))
+pub reported-within : (s p : List ℕ) {text : Text} → text ≡ reportOf s p → text .length ≤ length (text .bytes)
+unfolding reportOf
+reported-within s p is = subst (λ (t : Text). t .length ≤ length (t .bytes)) (sym is) (text-within (printed (figuresOf s) (redundantOf s) (verdictOf s p)))
 
-pub reported-counted : {s p : List ℕ} {text : Text} → Reported s p text → text .length ≡ length (take (text .length) (text .bytes))
-reported-counted {s} {p} {text} r = sym (length-take-le (text .length) (text .bytes) (reported-within r))
+pub reported-counted : (s p : List ℕ) {text : Text} → text ≡ reportOf s p → text .length ≡ length (take (text .length) (text .bytes))
+reported-counted s p {text} is = sym (length-take-le (text .length) (text .bytes) (reported-within s p is))
 
 -- ── Which lines ──
 

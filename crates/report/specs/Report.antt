@@ -1,5 +1,4 @@
 -- Document 01, "Example desk": what the program prints for every graph file and proposal file, byte by byte.
-use mathlib.Core.Path.{_≡_}
 use mathlib.Core.List.{List, [], _∷_, _++_}
 use Prim.Native.Nat.{ℕ, _-_}
 use lib.ListN.{length, replicate}
@@ -12,7 +11,7 @@ use Rattle.figures.specs.Figures.{figuresOf}
 use Rattle.redundant.specs.declared.RedundantSet.{RedundantSet}
 use Rattle.redundant.specs.Redundant.{redundantOf}
 use Rattle.verdict.specs.declared.ProposalVerdict.{ProposalVerdict}
-use Rattle.verdict.specs.Verdict.{VerdictAnswer}
+use Rattle.verdict.specs.Verdict.{verdictOf}
 use Rattle.report.specs.declared.Text.{Text}
 
 -- the words of the lines, in ASCII
@@ -62,9 +61,6 @@ printed figures set verdict =
 unfoldable pub textOf : List ℕ → Text
 textOf bytes = record { length = length bytes; bytes = bytes ++ replicate (1024 - length bytes) 0 }
 
--- What is printed of two files: the lines of the calls' answers. Of the verdict 01 leaves the place of refusal 13 open, so there the text is that of an
--- answer which the verdict call may give.
-pub record Reported (s p : List ℕ) (text : Text) : Type 0 where
-  pub verdict : ProposalVerdict
-  pub allowed : VerdictAnswer s p verdict
-  pub text-is : text ≡ textOf (printed (figuresOf s) (redundantOf s) verdict)
+-- What is printed of two files: the lines of the calls' answers.
+unfoldable pub reportOf : List ℕ → List ℕ → Text
+reportOf s p = textOf (printed (figuresOf s) (redundantOf s) (verdictOf s p))

@@ -6,7 +6,7 @@ ghost use Rattle.figures.specs.Figures.{figuresOf};
 ghost use Rattle.least_delays.specs.LeastDelays.{delaysRefusal, delaysAfter};
 ghost use Rattle.redundant.specs.Redundant.{redundantOf};
 ghost use Rattle.timetable.specs.Timetable.{timetableRefusal, timetableAfter};
-ghost use Rattle.verdict.specs.Verdict.{VerdictAnswer};
+ghost use Rattle.verdict.specs.Verdict.{verdictOf};
 ghost use Rattle.plan.specs.Plan.{planAnswerOf, planAfter};
 use acceptance::Outcome;
 use figures::GraphFigures;
@@ -52,7 +52,7 @@ pub extern "C" fn resync_timetable(graph: &[u8], turns: u64, starts: &mut [u32])
 // Whether a proposal is accepted beside a graph, with the latency of its result and its margin, or why not.
 #[no_mangle]
 pub extern "C" fn resync_verdict(graph: &[u8], proposal: &[u8]) -> ProposalVerdict
-    ensures { λ r. ⌜ VerdictAnswer (now (graph .entry)) (now (proposal .entry)) r ⌝ }
+    ensures { λ r. ⌜ r ≡ verdictOf (now (graph .entry)) (now (proposal .entry)) ⌝ }
 {
     verdict::verdict(graph, proposal)
 }

@@ -1,9 +1,9 @@
--- What `verdict` hands over is an answer that the contract allows: where the graph or the proposal's file is refused, the chain ends with that refusal,
+-- What `verdict` hands over is the answer of its contract: where the graph or the proposal's file is refused, the chain ends with that refusal,
 -- which has neither latency nor margin; otherwise it ends with the judgement of the edges.
 use mathlib.Core.Path.{_≡_, refl, sym, ap, _∙_, subst}
 use mathlib.Core.Logic.{_⊎_, inl, inr, _≢_}
 use mathlib.Core.List.{List}
-use Prim.Native.Nat.{ℕ, _≤_, _<_}
+use Prim.Native.Nat.{ℕ, _<_}
 use native.Mathlib.Omega.{arith}
 use lib.IntN.{pos}
 use Rattle.model.specs.Lists.{counted}
@@ -21,53 +21,46 @@ use Rattle.readings.specs.Working.{workingProposal, proposalReading, graphIn, p
 use Rattle.readings.proofs.Accepted.{proposal-formed}
 use Rattle.readings.proofs.Held.{proposal-given, proposal-refusal-given, proposed-in-working}
 use Rattle.acceptance.specs.declared.Acceptance.{Acceptance}
-use Rattle.acceptance.specs.declared.Outcome.{Outcome}
 use Rattle.acceptance.specs.Acceptance.{acceptanceRefusal, acceptance}
 use Rattle.acceptance.specs.Outcomes.{tasksOf, outcome}
 use Rattle.acceptance.specs.Theorems.{AcceptedFile}
 use Rattle.acceptance.proofs.AcceptedFiles.{refusal-given, accepted, read-fronts, graph-held, accepted-reading}
 use Rattle.acceptance.proofs.Rooms.{up-to-12}
 use Rattle.judgement.specs.declared.Judgement.{Judgement}
-use Rattle.judgement.specs.Judgement.{tellsLatency, judgedRefusal, judgement, OpenPlace}
+use Rattle.judgement.specs.Judgement.{tellsLatency, judgedRefusal, judgement}
 use Rattle.judgement.specs.Searches.{Judgeable}
 use Rattle.judgement.proofs.Sizes.{told-latency-small}
 use Rattle.verdict.specs.declared.ProposalVerdict.{ProposalVerdict}
-use Rattle.verdict.specs.Verdict.{margin, toldLate, verdictRefusal, resultLatency, verdictOf, VerdictAnswer}
+use Rattle.verdict.specs.Verdict.{margin, toldLate, verdictRefusal, resultLatency, verdictOf}
 use Rattle.verdict.proofs.Told.{told-plain}
 
 -- ── Refused files ──
 
 module _ (s p : List ℕ) where
-  -- a refusal of 1 to 12, wherever the chain ends with it
-  refused-answer :
-      {q : Refusal} {r : ProposalVerdict} → ((place : ℕ) → verdictRefusal s p place ≡ q) → q .number ≢ 0 → q .number ≤ 12 →
-      (r .outcome ≡ outcome q) × (r .latency ≡ 0) × (r .margin ≡ pos 0) → VerdictAnswer s p r
+  -- a refusal other than 15, wherever the chain ends with it
+  pub refused-answer :
+      {q : Refusal} {r : ProposalVerdict} → verdictRefusal s p ≡ q → q .number ≢ 0 → q .number ≢ 15 →
+      (r .outcome ≡ outcome q) × (r .latency ≡ 0) × (r .margin ≡ pos 0) → r ≡ verdictOf s p
   unfolding verdictOf outcome
-  refused-answer {q} {r} is some low told =
+  refused-answer {q} is some other told =
       let b = graphOf s .bound in
       let l = resultLatency s p in
-      let place = r .outcome .place in
-      record {
-        settled =
-            λ i. record {
-              outcome = (told .0 ∙ (sym (told-plain q b l (λ z. omega (arith, low, z))) ∙ ap (λ (x : Refusal). toldLate x b l) (sym (is place)))) i;
-              latency = (told .1 ∙ (sym (if-refused (q .number) l 0 some) ∙ ap (λ (x : Refusal). ifPassed (x .number) l 0) (sym (is place)))) i;
-              margin =
-                  (told .2 ∙
-                  (sym (if-refused (q .number) (margin b l) (pos 0) some) ∙ ap (λ (x : Refusal). ifPassed (x .number) (margin b l) (pos 0)) (sym (is place)))) i;
-            };
-        left-open = λ thirteen. let same = ap (λ (o : Outcome). o .number) (told .0) in absurd (omega (arith, low, same, thirteen));
+      λ i. record {
+        outcome = (told .0 ∙ (sym (told-plain q b l other) ∙ ap (λ (x : Refusal). toldLate x b l) (sym is))) i;
+        latency = (told .1 ∙ (sym (if-refused (q .number) l 0 some) ∙ ap (λ (x : Refusal). ifPassed (x .number) l 0) (sym is))) i;
+        margin =
+            (told .2 ∙ (sym (if-refused (q .number) (margin b l) (pos 0) some) ∙ ap (λ (x : Refusal). ifPassed (x .number) (margin b l) (pos 0)) (sym is))) i;
       }
 
   pub graph-refused :
       {a : Acceptance} {r : ProposalVerdict} → a ≡ acceptance s → a .refusal .number ≢ 0 →
-      (r .outcome ≡ outcome (a .refusal)) × (r .latency ≡ 0) × (r .margin ≡ pos 0) → VerdictAnswer s p r
+      (r .outcome ≡ outcome (a .refusal)) × (r .latency ≡ 0) × (r .margin ≡ pos 0) → r ≡ verdictOf s p
   unfolding verdictRefusal
   graph-refused {a} is some told =
       let same : a .refusal ≡ acceptanceRefusal s = refusal-given s is in
       refused-answer
-      (λ place. stops (acceptanceRefusal s) _ (λ z. some (number-same same ∙ z)) ∙ sym same)
-      some (subst (λ (x : Refusal). x .number ≤ 12) (sym same) (up-to-12 s)) told
+      (stops (acceptanceRefusal s) _ (λ z. some (number-same same ∙ z)) ∙ sym same)
+      some (λ z. omega (arith, z, up-to-12 s, number-same same)) told
 
 module _ (s p : List ℕ) {a : Acceptance} (is : a ≡ acceptance s) (passed : a .refusal .number ≡ 0) {q : ProposalReading} (read : q ≡ proposalReading (a .reading .tasks) p) where
   graph-passed : acceptanceRefusal s .number ≡ 0
@@ -87,14 +80,14 @@ module _ (s p : List ℕ) {a : Acceptance} (is : a ≡ acceptance s) (passed : a
   refusal-read = ap (λ (x : ProposalReading). x .refusal) reading-is ∙ proposal-refusal-given (tasksOf s) p
 
   pub proposal-refused :
-      {r : ProposalVerdict} → q .refusal .number ≢ 0 → (r .outcome ≡ outcome (q .refusal)) × (r .latency ≡ 0) × (r .margin ≡ pos 0) → VerdictAnswer s p r
+      {r : ProposalVerdict} → q .refusal .number ≢ 0 → (r .outcome ≡ outcome (q .refusal)) × (r .latency ≡ 0) × (r .margin ≡ pos 0) → r ≡ verdictOf s p
   unfolding verdictRefusal
   proposal-refused some told =
       let low = proposal-numbers (tasksOf s) p in
       let same = number-same refusal-read in
       refused-answer s p
-      (λ place. passes (acceptanceRefusal s) _ graph-passed ∙ (stops (proposalRefusal (tasksOf s) p) _ (λ z. some (number-same refusal-read ∙ z)) ∙ sym refusal-read))
-      some (omega (arith, low, same)) told
+      (passes (acceptanceRefusal s) _ graph-passed ∙ (stops (proposalRefusal (tasksOf s) p) _ (λ z. some (number-same refusal-read ∙ z)) ∙ sym refusal-read))
+      some (λ z. omega (arith, z, low, same)) told
 
   -- ── Judged edges ──
 
@@ -102,7 +95,7 @@ module _ (s p : List ℕ) {a : Acceptance} (is : a ≡ acceptance s) (passed : a
     proposal-passed : proposalRefusal (tasksOf s) p .number ≡ 0
     proposal-passed = number-same (sym refusal-read) ∙ read-passed
 
-    pub edges-formed : WellFormedEdges (count (graphOf s)) (proposalOf p)
+    edges-formed : WellFormedEdges (count (graphOf s)) (proposalOf p)
     unfolding tasksOf
     edges-formed = proposal-formed (count (graphOf s)) p proposal-passed
 
@@ -121,25 +114,21 @@ module _ (s p : List ℕ) {a : Acceptance} (is : a ≡ acceptance s) (passed : a
         }
 
     -- what is judged of the readings is judged of the files' graph and edges
-    pub judged-here :
-        {j : Judgement} → j ≡ judgement (graphIn (a .reading)) (proposedIn q) (j .refusal .place) → j ≡ judgement (graphOf s) (proposalOf p) (j .refusal .place)
-    judged-here {j} judged = judged ∙ (λ i. judgement (graph-held s is passed i) (edges-held i) (j .refusal .place))
-
-    pub open-here : {place : ℕ} → OpenPlace (graphIn (a .reading)) (proposedIn q) place → OpenPlace (graphOf s) (proposalOf p) place
-    open-here {place} = subst (λ (t : Type 0). t) (λ i. OpenPlace (graph-held s is passed i) (edges-held i) place)
+    pub judged-here : {j : Judgement} → j ≡ judgement (graphIn (a .reading)) (proposedIn q) → j ≡ judgement (graphOf s) (proposalOf p)
+    judged-here judged = judged ∙ (λ i. judgement (graph-held s is passed i) (edges-held i))
 
     -- what the margin is made of is small
     pub sizes :
-        {j : Judgement} → j ≡ judgement (graphOf s) (proposalOf p) (j .refusal .place) → (a .reading .bound < 1073741824) × (j .latency < 1073741824)
+        {j : Judgement} → j ≡ judgement (graphOf s) (proposalOf p) → (a .reading .bound < 1073741824) × (j .latency < 1073741824)
     sizes {j} judged =
         let fits = file .1 .formed .bound-fits in
-        let small = told-latency-small (graphOf s) (proposalOf p) (file .1) edges-formed (j .refusal .place) in
+        let small = told-latency-small (graphOf s) (proposalOf p) (file .1) edges-formed in
         let same = ap (λ (x : Judgement). x .latency) judged in
         (omega (arith, fits, read-fronts s is passed .bound-is), omega (arith, same, small))
 
-    chain : (place : ℕ) → verdictRefusal s p place ≡ judgedRefusal (graphOf s) (proposalOf p) place
+    chain : verdictRefusal s p ≡ judgedRefusal (graphOf s) (proposalOf p)
     unfolding verdictRefusal judgedRefusal
-    chain place = passes (acceptanceRefusal s) _ graph-passed ∙ (passes (proposalRefusal (tasksOf s) p) _ proposal-passed ∙ last-answer _)
+    chain = passes (acceptanceRefusal s) _ graph-passed ∙ (passes (proposalRefusal (tasksOf s) p) _ proposal-passed ∙ last-answer _)
 
     -- where latency and margin are told, the judgement tells the latency
     told-alike :
@@ -175,10 +164,10 @@ module _ (s p : List ℕ) {a : Acceptance} (is : a ≡ acceptance s) (passed : a
           if-refused (refusal .number) _ (pos 0) some ∙ sym (if-refused (refusal .number) (margin b l) (pos 0) some),
         )
 
-    module _ {j : Judgement} (judged : j ≡ judgement (graphOf s) (proposalOf p) (j .refusal .place)) where
-      refusal-is : j .refusal ≡ verdictRefusal s p (j .refusal .place)
+    module _ {j : Judgement} (judged : j ≡ judgement (graphOf s) (proposalOf p)) where
+      refusal-is : j .refusal ≡ verdictRefusal s p
       unfolding judgement
-      refusal-is = ap (λ (x : Judgement). x .refusal) judged ∙ sym (chain (j .refusal .place))
+      refusal-is = ap (λ (x : Judgement). x .refusal) judged ∙ sym chain
 
       latency-is : j .latency ≡ counted (tellsLatency (j .refusal .number)) (resultLatency s p)
       unfolding judgement resultLatency
@@ -187,35 +176,27 @@ module _ (s p : List ℕ) {a : Acceptance} (is : a ≡ acceptance s) (passed : a
           ap (λ (x : Refusal). counted (tellsLatency (x .number)) (latencyOf (result (graphOf s) (proposalOf p)))) (sym (ap (λ (x : Judgement). x .refusal) judged))
 
       pub judged-answer :
-          {r : ProposalVerdict} → (j .refusal .number ≡ 13 → OpenPlace (graphOf s) (proposalOf p) (j .refusal .place)) →
+          {r : ProposalVerdict} →
           r .outcome ≡ toldLate (j .refusal) (a .reading .bound) (j .latency) →
           r .latency ≡ ifPassed (j .refusal .number) (j .latency) 0 →
-          r .margin ≡ ifPassed (j .refusal .number) (margin (a .reading .bound) (j .latency)) (pos 0) → VerdictAnswer s p r
-      unfolding verdictOf toldLate
-      judged-answer {r} place-open told timed-so weighed-so =
+          r .margin ≡ ifPassed (j .refusal .number) (margin (a .reading .bound) (j .latency)) (pos 0) → r ≡ verdictOf s p
+      unfolding verdictOf
+      judged-answer told timed-so weighed-so =
           let b = graphOf s .bound in
           let l = resultLatency s p in
           let bound-is : a .reading .bound ≡ b = read-fronts s is passed .bound-is in
           let alike = told-alike (j .refusal) b l in
-          let place-is : r .outcome .place ≡ j .refusal .place = ap (λ (o : Outcome). o .place) told in
-          let number-is : r .outcome .number ≡ j .refusal .number = ap (λ (o : Outcome). o .number) told in
-          let refusal-there : j .refusal ≡ verdictRefusal s p (r .outcome .place) = refusal-is ∙ ap (verdictRefusal s p) (sym place-is) in
-          record {
-            settled =
-                λ i. record {
-                  outcome =
-                      (told ∙
-                      ((λ k. toldLate (j .refusal) (bound-is k) (latency-is k)) ∙
-                      (alike .0 ∙ ap (λ (x : Refusal). toldLate x b l) refusal-there))) i;
-                  latency =
-                      (timed-so ∙
-                      (ap (λ (x : ℕ). ifPassed (j .refusal .number) x 0) latency-is ∙
-                      (alike .1 ∙ ap (λ (x : Refusal). ifPassed (x .number) l 0) refusal-there))) i;
-                  margin =
-                      (weighed-so ∙
-                      ((λ k. ifPassed (j .refusal .number) (margin (bound-is k) (latency-is k)) (pos 0)) ∙
-                      (alike .2 ∙ ap (λ (x : Refusal). ifPassed (x .number) (margin b l) (pos 0)) refusal-there))) i;
-                };
-            left-open =
-                λ thirteen. subst (OpenPlace (graphOf s) (proposalOf p)) (sym place-is) (place-open (sym number-is ∙ thirteen));
+          λ i. record {
+            outcome =
+                (told ∙
+                ((λ k. toldLate (j .refusal) (bound-is k) (latency-is k)) ∙
+                (alike .0 ∙ ap (λ (x : Refusal). toldLate x b l) refusal-is))) i;
+            latency =
+                (timed-so ∙
+                (ap (λ (x : ℕ). ifPassed (j .refusal .number) x 0) latency-is ∙
+                (alike .1 ∙ ap (λ (x : Refusal). ifPassed (x .number) l 0) refusal-is))) i;
+            margin =
+                (weighed-so ∙
+                ((λ k. ifPassed (j .refusal .number) (margin (bound-is k) (latency-is k)) (pos 0)) ∙
+                (alike .2 ∙ ap (λ (x : Refusal). ifPassed (x .number) (margin b l) (pos 0)) refusal-is))) i;
           }

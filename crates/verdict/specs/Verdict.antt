@@ -1,6 +1,5 @@
 -- Document 01, "What the calls hand over": what the verdict call answers, for every two lists of bytes. Of a refused call every field that 01 does
 -- not name is 0.
-use mathlib.Core.Path.{_≡_}
 use mathlib.Core.Bool.{Bool, true, false}
 use mathlib.Core.List.{List, [], _∷_}
 use Prim.Native.Nat.{ℕ}
@@ -15,7 +14,7 @@ use Rattle.files.specs.Refusals.{first, ifPassed}
 use Rattle.acceptance.specs.declared.Outcome.{Outcome}
 use Rattle.acceptance.specs.Acceptance.{acceptanceRefusal}
 use Rattle.acceptance.specs.Outcomes.{tasksOf}
-use Rattle.judgement.specs.Judgement.{judgedRefusal, OpenPlace}
+use Rattle.judgement.specs.Judgement.{judgedRefusal}
 use Rattle.verdict.specs.declared.ProposalVerdict.{ProposalVerdict}
 
 -- "margin, which is bound minus latency and may be negative"
@@ -23,13 +22,13 @@ unfoldable pub margin : ℕ → ℕ → ℤ
 margin bound latency = pos bound -ℤ pos latency
 
 -- "Sequence": the graph's checks up to 12, "then the proposal's header 1, 2, 3; length 1 or 4; its two zero bits and filling 4; each edge 6; then 8,
--- 13, 14, 15". `place` is the one that comes with 13, which 01 leaves open.
-unfoldable pub verdictRefusal : List ℕ → List ℕ → ℕ → Refusal
-verdictRefusal s p place =
+-- 13, 14, 15".
+unfoldable pub verdictRefusal : List ℕ → List ℕ → Refusal
+verdictRefusal s p =
     first
     (acceptanceRefusal s
     ∷ proposalRefusal (tasksOf s) p
-    ∷ judgedRefusal (graphOf s) (proposalOf p) place
+    ∷ judgedRefusal (graphOf s) (proposalOf p)
     ∷ [])
 
 -- a margin, if the test says so, else 0
@@ -50,15 +49,10 @@ toldLate r bound latency = record {
 unfoldable pub resultLatency : List ℕ → List ℕ → ℕ
 resultLatency s p = latencyOf (result (graphOf s) (proposalOf p))
 
--- "Verdict: latency of the result, and margin": if the proposal is accepted; `place` as above.
-unfoldable pub verdictOf : List ℕ → List ℕ → ℕ → ProposalVerdict
-verdictOf s p place = record {
-  outcome = toldLate (verdictRefusal s p place) (graphOf s .bound) (resultLatency s p);
-  latency = ifPassed (verdictRefusal s p place .number) (resultLatency s p) 0;
-  margin = ifPassed (verdictRefusal s p place .number) (margin (graphOf s .bound) (resultLatency s p)) (pos 0);
+-- "Verdict: latency of the result, and margin": if the proposal is accepted
+unfoldable pub verdictOf : List ℕ → List ℕ → ProposalVerdict
+verdictOf s p = record {
+  outcome = toldLate (verdictRefusal s p) (graphOf s .bound) (resultLatency s p);
+  latency = ifPassed (verdictRefusal s p .number) (resultLatency s p) 0;
+  margin = ifPassed (verdictRefusal s p .number) (margin (graphOf s .bound) (resultLatency s p)) (pos 0);
 }
-
--- "The only one left open now is the place given with refusal 13": every value of the answer is settled but that one, and of that one this is true.
-pub record VerdictAnswer (s p : List ℕ) (r : ProposalVerdict) : Type 0 where
-  pub settled : r ≡ verdictOf s p (r .outcome .place)
-  pub left-open : r .outcome .number ≡ 13 → OpenPlace (graphOf s) (proposalOf p) (r .outcome .place)

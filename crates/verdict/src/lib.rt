@@ -4,7 +4,7 @@ ghost use Prim.Native.Nat.{_<_};
 ghost use lib.IntN.{pos};
 ghost use Rattle.files.specs.Refusals.{ifPassed};
 ghost use Rattle.acceptance.specs.Outcomes.{outcome};
-ghost use Rattle.verdict.specs.Verdict.{margin, toldLate, VerdictAnswer};
+ghost use Rattle.verdict.specs.Verdict.{margin, toldLate, verdictOf};
 use acceptance::Outcome;
 use acceptance::accept;
 use acceptance::told;
@@ -79,7 +79,7 @@ fn weighed(judged: Judgement, bound: u32) -> ProposalVerdict
 
 // Whether a proposal is accepted beside a graph, with the latency of its result and its margin, or why not.
 pub fn verdict(graph: &[u8], proposal: &[u8]) -> ProposalVerdict
-    ensures { λ r. ⌜ VerdictAnswer (now (graph .entry)) (now (proposal .entry)) r ⌝ }
+    ensures { λ r. ⌜ r ≡ verdictOf (now (graph .entry)) (now (proposal .entry)) ⌝ }
 {
     let accepted = accept(graph);
     let unaccepted = accepted.refusal;

@@ -1,6 +1,6 @@
 //! The six calls without proofs, written for speed, to measure the proved ones against.
 //!
-//! They give the answers of [`resync::raw`] field by field, refusals and the place of 13 too, and take no memory but the stack's.
+//! They give the answers of [`resync::raw`] field by field, and take no memory but the stack's.
 
 mod delays;
 mod files;
@@ -148,6 +148,17 @@ mod tests {
         for turns in [0, 1, 2, 7, 64, 65, u64::MAX] {
             compare(&DESK, &PROPOSAL, turns);
         }
+    }
+
+    /// 0→2, 2→3, 1→3, and 0→1 with delay 1: edges 2 and 4 lie on cycles.
+    #[test]
+    fn the_earliest_edge_on_a_cycle() {
+        let proposal = [
+            0x08, 0x10, 0x00, 0x20, 0x00, 0x83, 0x00, 0x04, 0x30, 0x00, 0x01, 0x01,
+        ];
+        compare(&DESK, &proposal, 1);
+        let refusal = crate::verdict(&DESK, &proposal).refusal;
+        assert_eq!((refusal.number, refusal.place), (13, 2));
     }
 
     #[test]

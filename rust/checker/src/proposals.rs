@@ -1,8 +1,8 @@
 //! An independent judge of proposals, to compare the proved verdict with.
 //!
-//! It is written from the memorandum's "resynchronization" (document 000, section 3.3) as document 01 reads it, as plainly as
-//! possible: cycles by going along every path, least delays by going on from the nearest task, latency as in [`schedule`]. It
-//! shares no code with the other side.
+//! It is written from the memorandum's "resynchronization" (document 000, section 3.3) as document 01 reads it, with request (iv)
+//! of document 02, as plainly as possible: cycles by going along every path, least delays by going on from the nearest task,
+//! latency as in [`schedule`]. It shares no code with the other side.
 
 use crate::files::{read_proposal, Edge, Graph, Refusal};
 use crate::schedule;
@@ -13,10 +13,8 @@ use std::collections::BTreeSet;
 pub enum Verdict {
     /// "latency of the result, and margin, which is bound minus latency"
     Accepted { latency: usize, margin: isize },
-    /// Refusals 1 to 12 and 14.
+    /// Refusals 1 to 14.
     Refused(Refusal),
-    /// Refusal 13, with the places of all proposed edges on a cycle: "place is one such edge".
-    OnCycle(Vec<usize>),
     /// Refusal 15: "latency and the negative margin are given".
     Late { latency: usize, margin: isize },
 }
@@ -27,7 +25,6 @@ impl Verdict {
         match self {
             Verdict::Accepted { .. } => 0,
             Verdict::Refused(refusal) => refusal.number,
-            Verdict::OnCycle(_) => 13,
             Verdict::Late { .. } => 15,
         }
     }
@@ -54,9 +51,9 @@ pub fn verdict_beside(graph: &Result<Graph, Refusal>, proposal: &[u8]) -> Verdic
 /// Refusals 13 to 15 of a well-formed proposal beside an accepted graph, in this sequence.
 pub fn judge(graph: &Graph, proposed: &[Edge]) -> Verdict {
     let result = result(graph, proposed);
-    let on_cycle = places_on_cycles(&result, proposed);
-    if !on_cycle.is_empty() {
-        return Verdict::OnCycle(on_cycle);
+    // "refusal 13 shall give the earliest proposed edge that lies on a cycle of the result" (document 02, request iv)
+    if let Some(&place) = places_on_cycles(&result, proposed).first() {
+        return Verdict::Refused(Refusal { number: 13, place });
     }
     if let Some(place) = first_lost(graph, &result) {
         return Verdict::Refused(Refusal { number: 14, place });
@@ -98,7 +95,7 @@ pub fn feedforward_edges(graph: &Graph) -> Vec<Edge> {
 
 /// The places, from 1 and ascending, of those among some of the graph's edges that lie on a cycle: a path leads from the sink
 /// back to the source, or they are the same.
-fn places_on_cycles(graph: &Graph, some: &[Edge]) -> Vec<usize> {
+pub fn places_on_cycles(graph: &Graph, some: &[Edge]) -> Vec<usize> {
     let edges = schedule::all_edges(graph);
     let mut after: Vec<Option<BTreeSet<usize>>> = vec![None; graph.tasks.len()];
     let mut places = Vec::new();
@@ -189,7 +186,7 @@ mod tests {
         assert_eq!(of(12, &[edge(0, 2, 0)]), refused(14, 2));
         assert_eq!(of(12, &[edge(1, 2, 1)]), refused(14, 1));
         let cycle = [edge(0, 2, 0), edge(1, 3, 0), edge(3, 0, 1)];
-        assert_eq!(of(12, &cycle), Verdict::OnCycle(vec![1, 2, 3]));
+        assert_eq!(of(12, &cycle), refused(13, 1));
         assert_eq!(of(12, &desk().edges), accepted(9, 3));
         assert_eq!(of(12, &[edge(0, 4, 0)]), refused(6, 1));
     }
@@ -217,25 +214,30 @@ mod tests {
 
     #[test]
     fn cycles_are_those_of_the_result() {
-        let on_cycle = |places: &[usize]| Verdict::OnCycle(places.to_vec());
         // Within one processor.
         for (a, b) in [(0, 0), (0, 1), (1, 0)] {
             let mut proposed = desk().edges;
             proposed.insert(1, edge(a, b, 9));
-            assert_eq!(judge(&desk(), &proposed), on_cycle(&[2]));
+            assert_eq!(judge(&desk(), &proposed), refused(13, 2));
         }
         // With the graph's own edges it would be on a cycle, but they are dropped.
         assert_eq!(judge(&desk(), &[edge(2, 0, 0)]), refused(14, 1));
         // Two that close a cycle together.
-        assert_eq!(
-            judge(&desk(), &[edge(2, 0, 0), edge(0, 2, 0)]),
-            on_cycle(&[1, 2])
-        );
+        let pair = [edge(2, 0, 0), edge(0, 2, 0)];
+        assert_eq!(judge(&desk(), &pair), refused(13, 1));
         // An edge that is kept, proposed once more.
         let mut ring = desk();
         ring.edges = vec![edge(0, 2, 0), edge(2, 0, 1)];
         assert_eq!(judge(&ring, &[]), accepted(7, 5));
-        assert_eq!(judge(&ring, &[edge(2, 0, 1)]), on_cycle(&[1]));
+        assert_eq!(judge(&ring, &[edge(2, 0, 1)]), refused(13, 1));
+    }
+
+    #[test]
+    fn the_earliest_edge_on_a_cycle_is_given() {
+        // 2 and 4 lie within a processor, 1 and 3 on no cycle.
+        let mixed = [edge(0, 2, 0), edge(2, 3, 0), edge(1, 3, 0), edge(0, 1, 1)];
+        assert_eq!(places_on_cycles(&result(&desk(), &mixed), &mixed), [2, 4]);
+        assert_eq!(judge(&desk(), &mixed), refused(13, 2));
     }
 
     #[test]

@@ -101,15 +101,14 @@ impl Given<'_> {
         }
     }
 
-    /// The refusals that the calls must give, in the sequence of [`CALLS`], by what the checker makes of the files. `told` is the
-    /// place that the verdict gave.
-    pub fn refusals(&self, graph: &Judged, verdict: &Verdict, told: u32) -> [Refusal; 6] {
+    /// The refusals that the calls must give, in the sequence of [`CALLS`], by what the checker makes of the files.
+    pub fn refusals(&self, graph: &Judged, verdict: &Verdict) -> [Refusal; 6] {
         [
             expected::of_graph(graph),
             expected::least_delays(graph, self.table),
             expected::of_graph(graph),
             expected::timetable(graph, self.turns, self.starts),
-            expected::verdict(verdict, told).refusal,
+            expected::verdict(verdict).refusal,
             expected::plan_refusal(graph, self.edges),
         ]
     }

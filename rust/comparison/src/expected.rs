@@ -90,8 +90,7 @@ pub fn starts(graph: &Graph, turns: u64) -> Vec<u32> {
     rows.concat().into_iter().map(|s| s as u32).collect()
 }
 
-/// "The only one left open now is the place given with refusal 13": the one told, if it is one of them.
-pub fn verdict(verdict: &Verdict, told: u32) -> raw::VerdictAnswer {
+pub fn verdict(verdict: &Verdict) -> raw::VerdictAnswer {
     let mut answer = raw::VerdictAnswer {
         refusal: refusal(verdict.number(), 0),
         ..Default::default()
@@ -102,8 +101,6 @@ pub fn verdict(verdict: &Verdict, told: u32) -> raw::VerdictAnswer {
             (answer.latency, answer.margin) = (*latency as u32, *margin as i32);
         }
         Verdict::Refused(refusal) => of.place = refusal.place as u32,
-        Verdict::OnCycle(places) if places.contains(&(told as usize)) => of.place = told,
-        Verdict::OnCycle(places) => of.place = places[0] as u32,
         Verdict::Late { latency, margin } => {
             (of.latency, of.margin) = (*latency as u32, *margin as i32);
         }

@@ -79,7 +79,7 @@ fn compare_graph(case: &str, file: &[u8]) -> Read {
 fn compare_verdict(case: &str, file: &[u8], graph: &Judged, proposal: &[u8]) -> VerdictAnswer {
     let proved = proved::verdict(file, proposal);
     let verdict = proposals::verdict_beside(graph, proposal);
-    let expected = expected::verdict(&verdict, proved.refusal.place);
+    let expected = expected::verdict(&verdict);
     assert!(
         proved == expected,
         "{case}\nproved: {proved:?}\nchecker: {verdict:?}\n{}\n{}",

@@ -93,11 +93,10 @@ fn room(round: usize, needed: usize) -> usize {
 fn hold_against_checker(given: &Given, handed: &Handed, graph: &Judged) {
     let file = || shown(given.graph);
     let verdict = proposals::verdict_beside(graph, given.proposal);
-    let told = handed.verdict.refusal.place;
-    let refusals = given.refusals(graph, &verdict, told);
+    let refusals = given.refusals(graph, &verdict);
     assert_eq!(handed.refusals(), refusals, "{}", file());
     assert_eq!(handed.figures, expected::figures(graph), "{}", file());
-    let verdict = expected::verdict(&verdict, told);
+    let verdict = expected::verdict(&verdict);
     assert_eq!(handed.verdict, verdict, "{}", file());
 
     let (plan, edges) = &handed.plan;
@@ -182,7 +181,7 @@ fn mutated_files() {
 
         let as_proposal = raw::verdict(placed_graph.file(), placed.file());
         let judged = proposals::verdict_beside(&desk.graph, &mutated);
-        let expected = expected::verdict(&judged, as_proposal.refusal.place);
+        let expected = expected::verdict(&judged);
         assert_eq!(as_proposal, expected, "{}", shown(&mutated));
         reached.count_one(verdict.expect("named"), &as_proposal.refusal);
 

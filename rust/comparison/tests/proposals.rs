@@ -3,7 +3,7 @@
 //!
 //! Everything is seeded: a run has the same cases as any other.
 
-use checker::files::{write_graph, write_proposal};
+use checker::files::{read_proposal, write_graph, write_proposal};
 use checker::files::{Edge, Graph, GraphFields, ProposalFields, Task};
 use checker::proposals::{self, Verdict};
 use checker::schedule;
@@ -51,7 +51,7 @@ impl Case<'_> {
         );
 
         let verdict = proposals::verdict_beside(&self.graph, proposal);
-        let expected = expected::verdict(&verdict, proved.refusal.place);
+        let expected = expected::verdict(&verdict);
         assert!(
             proved == expected,
             "{}\nproved: {proved:?}\nchecker: {verdict:?}\n{}\n{}",
@@ -99,6 +99,10 @@ struct Tally {
     graph: [usize; 16],
     /// Those of a proposal beside an accepted graph.
     proposal: [usize; 16],
+    /// Of its refusals 13, those whose place is above 1.
+    above_1: usize,
+    /// Of its refusals 13, those with several edges on cycles, and one on none among or after them.
+    mixed: usize,
 }
 
 impl Tally {
@@ -107,17 +111,34 @@ impl Tally {
             what,
             graph: [0; 16],
             proposal: [0; 16],
+            above_1: 0,
+            mixed: 0,
         }
     }
 
     fn compare(&mut self, case: &Case, proposal: &[u8]) -> VerdictAnswer {
         let verdict = case.compare(proposal);
-        let reached = match case.graph {
-            Err(_) => &mut self.graph,
-            Ok(_) => &mut self.proposal,
-        };
-        reached[verdict.refusal.number as usize] += 1;
+        let number = verdict.refusal.number as usize;
+        match &case.graph {
+            Err(_) => self.graph[number] += 1,
+            Ok(graph) => {
+                self.proposal[number] += 1;
+                if number == 13 {
+                    self.count_places(graph, proposal);
+                }
+            }
+        }
         verdict
+    }
+
+    /// Counts a proposal that is refused with 13 by where its edges on cycles stand.
+    fn count_places(&mut self, graph: &Graph, proposal: &[u8]) {
+        let proposed = read_proposal(proposal, graph.tasks.len()).expect("well-formed");
+        let result = proposals::result(graph, &proposed);
+        let places = proposals::places_on_cycles(&result, &proposed);
+        let from_first = proposed.len() + 1 - places[0];
+        self.above_1 += usize::from(places[0] > 1);
+        self.mixed += usize::from(places.len() > 1 && places.len() < from_first);
     }
 
     fn compare_edges(&mut self, case: &Case, proposed: &[Edge]) -> VerdictAnswer {
@@ -125,7 +146,7 @@ impl Tally {
     }
 
     /// Prints the counts and asserts that there are enough of each: a hundred of every number named, of the graph and of the
-    /// proposal, 0 for accepted.
+    /// proposal, 0 for accepted; if 13 is named, a hundred with a place above 1, and a hundred mixed ones.
     fn close(&self, verdicts: usize, of_graph: &[usize], of_proposal: &[usize]) {
         let total: usize = self.graph.iter().chain(&self.proposal).sum();
         let mut lines = format!("\n{}: {total} verdicts", self.what);
@@ -137,8 +158,12 @@ impl Tally {
                 }
             }
         }
+        let (above_1, mixed) = (self.above_1, self.mixed);
+        lines += &format!("; of 13 above place 1: {above_1}, mixed: {mixed}");
         print(&lines);
         assert!(total >= verdicts, "{}: too few verdicts", self.what);
+        let enough = above_1.min(mixed) >= 100 || !of_proposal.contains(&13);
+        assert!(enough, "{}: too few places of 13", self.what);
         for (who, reached, numbers) in [
             ("graph", self.graph, of_graph),
             ("proposal", self.proposal, of_proposal),
@@ -294,9 +319,13 @@ fn largest_results() {
             let on_cycle = with(edge(g.between(0, 31), g.between(0, 31), g.between(0, 255)));
             let verdict = tally.compare_edges(&case, &on_cycle);
             assert_eq!(verdict, refused(13, at + 1));
-            let back = with(edge(g.between(32, 59), g.between(0, 31), 255));
-            let verdict = tally.compare_edges(&case, &back);
-            assert_eq!(verdict.refusal.number, 13);
+            // One back lies on a cycle with every edge to the processor that it leaves.
+            let back = edge(g.between(32, 59), g.between(0, 31), 255);
+            let closed = with(back);
+            let mut edges = closed.iter();
+            let first = edges.position(|e| *e == back || e.sink / 4 == back.source / 4);
+            let verdict = tally.compare_edges(&case, &closed);
+            assert_eq!(verdict, refused(13, first.expect("itself") + 1));
             let other = (at + 1) % 256;
             let verdict = tally.compare_edges(&case, &with(proposed[other]));
             assert_eq!(verdict, refused(8, at.max(other) + 1));
@@ -413,8 +442,7 @@ fn the_same_file_lent_twice() {
         for file in [write_graph(&GraphFields::of(&graph)), proposal] {
             let verdict = proposals::verdict(&file, &file);
             let proved = proved::verdict(&file, &file);
-            let expected = expected::verdict(&verdict, proved.refusal.place);
-            assert_eq!(proved, expected);
+            assert_eq!(proved, expected::verdict(&verdict));
         }
     }
 }
@@ -505,9 +533,11 @@ fn example_desk() {
     assert_eq!(at(12, &[]), refused(14, 1));
     assert_eq!(at(12, &[edge(0, 2, 0)]), refused(14, 2));
     assert_eq!(at(12, &[edge(1, 2, 1)]), refused(14, 1));
-    let cycle = at(12, &[edge(0, 2, 0), edge(1, 3, 0), edge(3, 0, 1)]);
-    assert!((1..=3).contains(&cycle.refusal.place));
-    assert_eq!(cycle, refused(13, cycle.refusal.place as usize));
+    let cycle = [edge(0, 2, 0), edge(1, 3, 0), edge(3, 0, 1)];
+    assert_eq!(at(12, &cycle), refused(13, 1));
+    // On cycles are 2 and 4.
+    let mixed = [edge(0, 2, 0), edge(2, 3, 0), edge(1, 3, 0), edge(0, 1, 1)];
+    assert_eq!(at(12, &mixed), refused(13, 2));
     // Its own edges, and those of them that are needed.
     assert_eq!(
         at(9, &[edge(0, 2, 0), edge(1, 3, 0), edge(0, 3, 0)]),
@@ -547,12 +577,10 @@ fn wrong_programs() {
     // Cycles are those of the result: the graph's own path from 1 to 2 is gone, and 14 comes; two proposed edges close one.
     let row = lone_tasks([1, 2, 3, 4], &[first, third]);
     assert_eq!(of(&row, &[first, edge(2, 1, 0)]), refused(14, 2));
-    assert_eq!(of(&row, &[first, third, edge(2, 1, 0)]).refusal.number, 13);
+    assert_eq!(of(&row, &[first, third, edge(2, 1, 0)]), refused(13, 2));
     let apart = lone_tasks([1, 2, 3, 4], &[first]);
     let closing = [first, edge(2, 3, 0), edge(3, 2, 0)];
-    let verdict = of(&apart, &closing);
-    assert!([2, 3].contains(&verdict.refusal.place));
-    assert_eq!(verdict.refusal.number, 13);
+    assert_eq!(of(&apart, &closing), refused(13, 2));
 
     // Two that are redundant one by one cannot go together: equal edges are refused, and of unequal ones one is needed.
     let twice = lone_tasks([1, 2, 3, 4], &[first, second, second]);
@@ -633,7 +661,7 @@ fn sequence_of_refusals() {
         edge(0, 5, 7),
         edge(1, 5, 7),
     ]);
-    let proposal_faults: [Fault<ProposalFields>; 12] = [
+    let proposal_faults: [Fault<ProposalFields>; 13] = [
         ("no header", (1, 0), |_| (), |b| b.truncate(1)),
         ("version", (2, 0), |f| f.version = 9, |_| ()),
         ("edges", (3, 0), |f| f.edge_count = 511, |_| ()),
@@ -643,7 +671,8 @@ fn sequence_of_refusals() {
         ("filling", (4, 0), |f| f.filling = 1, |_| ()),
         ("edge 4", (6, 4), |f| f.edges[3].sink = 6, |_| ()),
         ("edge 5 as 4", (8, 5), |f| f.edges[4] = f.edges[3], |_| ()),
-        ("cycle", (13, 6), |f| f.edges[5].source = 5, |_| ()),
+        ("cycle at 3", (13, 3), |f| f.edges[2].source = 4, |_| ()),
+        ("cycle at 6", (13, 6), |f| f.edges[5].source = 5, |_| ()),
         ("order", (14, 5), |f| f.edges[2].delay = 4, |_| ()),
         ("late", (15, 0), |f| f.edges[6] = edge(1, 2, 0), |_| ()),
     ];

@@ -42,7 +42,7 @@ fn every_refusal_of_every_call() {
         };
         let handed = given.call();
         let verdict = proposals::verdict_beside(&graph, &proposal);
-        let expected = given.refusals(&graph, &verdict, handed.verdict.refusal.place);
+        let expected = given.refusals(&graph, &verdict);
         let proved = handed.refusals();
         assert_eq!(proved, expected, "{}\n{}", shown(&file), shown(&proposal));
         reached.count(&proved);

@@ -22,7 +22,7 @@ use crate::raw;
 /// | 10 | the latency input has an incoming edge of delay 0 | |
 /// | 11 | latency input equals output, or no path of delay 0 joins them | |
 /// | 12 | the bound is below the graph's latency | |
-/// | 13 | a proposed edge on a cycle of the result | one such edge of the proposal |
+/// | 13 | a proposed edge on a cycle of the result | first such edge of the proposal |
 /// | 14 | an original order lost | first such edge of the graph |
 /// | 15 | late: latency and margin are given | |
 /// | 16 | a lent list too short | |

@@ -270,6 +270,8 @@ fn refused_proposals() {
         ("0804 04400 0", 6, 1, Cause::FileWriter),
         ("0808 04200 04200", 8, 2, Cause::FileWriter),
         ("0804 04000 0", 13, 1, Cause::ProposalMaker),
+        ("080C 00200 04300 0C001 0", 13, 1, Cause::ProposalMaker),
+        ("0810 00200 08300 04300 00101", 13, 2, Cause::ProposalMaker),
         ("0800", 14, 1, Cause::ProposalMaker),
         ("0804 00200 0", 14, 2, Cause::ProposalMaker),
         ("0804 04201 0", 14, 1, Cause::ProposalMaker),

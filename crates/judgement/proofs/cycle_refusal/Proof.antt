@@ -1,10 +1,8 @@
--- `judgement::cycle_refusal` meets its contract: the words hold between which processors paths of the result lead, so the search finds a proposed edge on a
--- cycle of it exactly if there is one.
-use mathlib.Core.Path.{sym, ap}
-use mathlib.Core.Bool.{Bool}
+-- `judgement::cycle_refusal` meets its contract: the words hold between which processors paths of the result lead, so the search finds the first proposed edge
+-- on a cycle of it, if there is one.
+use mathlib.Core.Path.{_∙_}
 use native.Mathlib.Omega.{arith}
-use Rattle.files.specs.Refusals.{refuse}
-use Rattle.judgement.proofs.Judging.{processors-within, processors-small, proposed-fronts, few-proposed, proposed-ends, made, result-sinks, result-joins, result-circled, result-reached, result-within, cycle-found, no-cycle-found}
+use Rattle.judgement.proofs.Judging.{processors-within, processors-small, proposed-fronts, few-proposed, proposed-ends, made, result-sinks, result-joins, result-circled, result-reached, result-within, cycle-is}
 use borrow.Author.Needs.{needs}
 use Rattle.judgement.proofs.cycle_refusal.Statement.{statement}
 use Rattle.judgement.proofs.cycle_refusal.Tie as tie
@@ -51,58 +49,49 @@ paths-between-processors-requires c κs =
     let made = (made (c .before .before .before .before .before .before .before .before .before .before .before .before .pre .0) (c .before .before .before .before .before .before .before .before .before .before .before .before .pre .1)) in
     (result-sinks graph made, (result-joins graph made, processors-small graph))
 
-sub-cyclic-place : tie.Need-sub-cyclic-place
-sub-cyclic-place c = search needs
+sub-cyclic-edge : tie.Need-sub-cyclic-edge
+sub-cyclic-edge c = search needs
 
-part-cyclic-place-start : tie.Need-part-cyclic-place-start
-part-cyclic-place-start c = search needs
+part-cyclic-edge-start : tie.Need-part-cyclic-edge-start
+part-cyclic-edge-start c = search needs
 
-part-cyclic-place-end : tie.Need-part-cyclic-place-end
-part-cyclic-place-end c = omega (arith, few-proposed (c .before .before .before .before .before .before .before .before .before .before .before .before .before .before .before .before .before .pre .0), proposed-fronts (c .before .before .before .before .before .before .before .before .before .before .before .before .before .before .before .before .before .pre .0) .source-room)
+part-cyclic-edge-end : tie.Need-part-cyclic-edge-end
+part-cyclic-edge-end c = omega (arith, few-proposed (c .before .before .before .before .before .before .before .before .before .before .before .before .before .before .before .before .before .pre .0), proposed-fronts (c .before .before .before .before .before .before .before .before .before .before .before .before .before .before .before .before .before .pre .0) .source-room)
 
-sub-cyclic-place-2 : tie.Need-sub-cyclic-place-2
-sub-cyclic-place-2 c = search needs
+sub-cyclic-edge-2 : tie.Need-sub-cyclic-edge-2
+sub-cyclic-edge-2 c = search needs
 
-part-cyclic-place-start-2 : tie.Need-part-cyclic-place-start-2
-part-cyclic-place-start-2 c = search needs
+part-cyclic-edge-start-2 : tie.Need-part-cyclic-edge-start-2
+part-cyclic-edge-start-2 c = search needs
 
-part-cyclic-place-end-2 : tie.Need-part-cyclic-place-end-2
-part-cyclic-place-end-2 c = omega (arith, few-proposed (c .before .before .before .before .before .before .before .before .before .before .before .before .before .before .before .before .before .before .before .pre .0), proposed-fronts (c .before .before .before .before .before .before .before .before .before .before .before .before .before .before .before .before .before .before .before .pre .0) .sink-room)
+part-cyclic-edge-end-2 : tie.Need-part-cyclic-edge-end-2
+part-cyclic-edge-end-2 c = omega (arith, few-proposed (c .before .before .before .before .before .before .before .before .before .before .before .before .before .before .before .before .before .before .before .pre .0), proposed-fronts (c .before .before .before .before .before .before .before .before .before .before .before .before .before .before .before .before .before .before .before .pre .0) .sink-room)
 
-sub-cyclic-place-3 : tie.Need-sub-cyclic-place-3
-sub-cyclic-place-3 c = search needs
+sub-cyclic-edge-3 : tie.Need-sub-cyclic-edge-3
+sub-cyclic-edge-3 c = search needs
 
-part-cyclic-place-start-3 : tie.Need-part-cyclic-place-start-3
-part-cyclic-place-start-3 c = search needs
+part-cyclic-edge-start-3 : tie.Need-part-cyclic-edge-start-3
+part-cyclic-edge-start-3 c = search needs
 
-part-cyclic-place-end-3 : tie.Need-part-cyclic-place-end-3
-part-cyclic-place-end-3 c = processors-within (c .before .before .before .before .before .before .before .before .before .before .before .before .before .before .before .before .before .before .before .before .before .pre .0 .accepted)
+part-cyclic-edge-end-3 : tie.Need-part-cyclic-edge-end-3
+part-cyclic-edge-end-3 c = processors-within (c .before .before .before .before .before .before .before .before .before .before .before .before .before .before .before .before .before .before .before .before .before .pre .0 .accepted)
 
-slice-aggregate-cyclic-place : tie.Need-slice-aggregate-cyclic-place
-slice-aggregate-cyclic-place c = search needs
+slice-aggregate-cyclic-edge : tie.Need-slice-aggregate-cyclic-edge
+slice-aggregate-cyclic-edge c = search needs
 
-cyclic-place-requires : tie.Need-cyclic-place-requires
-cyclic-place-requires c κs =
+cyclic-edge-requires : tie.Need-cyclic-edge-requires
+cyclic-edge-requires c κs =
     let graph = (c .before .before .before .before .before .before .before .before .before .before .before .before .before .before .before .before .before .before .before .before .before .before .before .pre .0 .accepted) in
     let more = proposed-fronts (c .before .before .before .before .before .before .before .before .before .before .before .before .before .before .before .before .before .before .before .before .before .before .before .pre .0) in
     let room = c .before .before .before .before .before .before .before .before .before .before .paths-between-processors .ensures _ (result-circled graph (made (c .before .before .before .before .before .before .before .before .before .before .before .before .before .before .before .before .before .before .before .before .before .before .before .pre .0) (c .before .before .before .before .before .before .before .before .before .before .before .before .before .before .before .before .before .before .before .before .before .before .before .pre .1))) .room in
     ((more .as-many-sinks, omega (arith, more .as-many, (c .before .before .before .before .before .before .before .before .before .before .before .before .before .before .before .before .before .before .before .before .before .before .before .pre .0) .formed .few), room), (processors-small graph, proposed-ends (c .before .before .before .before .before .before .before .before .before .before .before .before .before .before .before .before .before .before .before .before .before .before .before .pre .0)))
 
 returns : tie.Need-returns
-unfolding refuse
 returns c =
-    let graph = (c .before .before .before .before .before .before .before .before .before .before .before .before .before .before .before .before .before .before .before .before .before .before .before .before .before .pre .0 .accepted) in
-    let reached = result-reached graph (made (c .before .before .before .before .before .before .before .before .before .before .before .before .before .before .before .before .before .before .before .before .before .before .before .before .before .pre .0) (c .before .before .before .before .before .before .before .before .before .before .before .before .before .before .before .before .before .before .before .before .before .before .before .before .before .pre .1)) (c .before .before .before .before .before .before .before .before .before .before .before .before .paths-between-processors .ensures _ (result-circled graph (made (c .before .before .before .before .before .before .before .before .before .before .before .before .before .before .before .before .before .before .before .before .before .before .before .before .before .pre .0) (c .before .before .before .before .before .before .before .before .before .before .before .before .before .before .before .before .before .before .before .before .before .before .before .before .before .pre .1)))) in
-    let found = cycle-found (c .before .before .before .before .before .before .before .before .before .before .before .before .before .before .before .before .before .before .before .before .before .before .before .before .before .pre .0) (c .before .cyclic-place .ensures _ reached) (c .if1 .taken) in
-    (ap (λ (b : Bool). refuse b 13 (c .before .cyclic-place .result)) (sym (found .0)), λ thirteen. found .1)
-
-returns-2 : tie.Need-returns-2
-unfolding refuse
-returns-2 c =
-    let graph = (c .before .before .before .before .before .before .before .before .before .before .before .before .before .before .before .before .before .before .before .before .before .before .before .before .before .pre .0 .accepted) in
-    let reached = result-reached graph (made (c .before .before .before .before .before .before .before .before .before .before .before .before .before .before .before .before .before .before .before .before .before .before .before .before .before .pre .0) (c .before .before .before .before .before .before .before .before .before .before .before .before .before .before .before .before .before .before .before .before .before .before .before .before .before .pre .1)) (c .before .before .before .before .before .before .before .before .before .before .before .before .paths-between-processors .ensures _ (result-circled graph (made (c .before .before .before .before .before .before .before .before .before .before .before .before .before .before .before .before .before .before .before .before .before .before .before .before .before .pre .0) (c .before .before .before .before .before .before .before .before .before .before .before .before .before .before .before .before .before .before .before .before .before .before .before .before .before .pre .1)))) in
-    let none = no-cycle-found (c .before .before .before .before .before .before .before .before .before .before .before .before .before .before .before .before .before .before .before .before .before .before .before .before .before .pre .0) (c .before .cyclic-place .ensures _ reached) (c .if1 .left) in
-    (ap (λ (b : Bool). refuse b 13 0) (sym none), λ thirteen. absurd (omega (arith, thirteen)))
+    let judgeable = c .before .before .before .before .before .before .before .before .before .before .before .before .before .before .before .before .before .before .before .before .before .before .before .before .pre .0 in
+    let made = made judgeable (c .before .before .before .before .before .before .before .before .before .before .before .before .before .before .before .before .before .before .before .before .before .before .before .before .pre .1) in
+    let reached = result-reached (judgeable .accepted) made (c .before .before .before .before .before .before .before .before .before .before .before .paths-between-processors .ensures _ (result-circled (judgeable .accepted) made)) in
+    c .cyclic-edge .ensures _ reached ∙ cycle-is judgeable
 
 pub cycle-refusal-spec : {M : Type 1} → statement M
 cycle-refusal-spec =
@@ -121,16 +110,15 @@ cycle-refusal-spec =
     part-paths-between-processors-start-3
     part-paths-between-processors-end-3
     paths-between-processors-requires
-    sub-cyclic-place
-    part-cyclic-place-start
-    part-cyclic-place-end
-    sub-cyclic-place-2
-    part-cyclic-place-start-2
-    part-cyclic-place-end-2
-    sub-cyclic-place-3
-    part-cyclic-place-start-3
-    part-cyclic-place-end-3
-    slice-aggregate-cyclic-place
-    cyclic-place-requires
-    returns
-    returns-2)
+    sub-cyclic-edge
+    part-cyclic-edge-start
+    part-cyclic-edge-end
+    sub-cyclic-edge-2
+    part-cyclic-edge-start-2
+    part-cyclic-edge-end-2
+    sub-cyclic-edge-3
+    part-cyclic-edge-start-3
+    part-cyclic-edge-end-3
+    slice-aggregate-cyclic-edge
+    cyclic-edge-requires
+    returns)

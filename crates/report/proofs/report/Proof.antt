@@ -1,7 +1,7 @@
 -- `report::report` meets its contract: the text is that of the three calls' answers, for which there is room.
 use mathlib.Core.Path.{_∙_}
 use borrow.Author.Needs.{needs}
-use Rattle.report.specs.Report.{printed, textOf}
+use Rattle.report.specs.Report.{printed, textOf, reportOf}
 use Rattle.report.proofs.Room.{printed-room, redundant-few}
 use Rattle.report.proofs.report.Statement.{statement}
 use Rattle.report.proofs.report.Tie as tie
@@ -36,15 +36,12 @@ text-of-requires c κs =
     })
 
 returns : tie.Need-returns
+unfolding reportOf
 returns c =
     let figures-are = c .before .before .before .figures .ensures in
     let set-is = c .before .before .redundant .ensures in
-    let v = c .before .verdict in
-    record {
-      verdict = v .result;
-      allowed = v .ensures;
-      text-is = c .text-of .ensures ∙ (λ i. textOf (printed (figures-are i) (set-is i) (v .result)));
-    }
+    let verdict-is = c .before .verdict .ensures in
+    c .text-of .ensures ∙ (λ i. textOf (printed (figures-are i) (set-is i) (verdict-is i)))
 
 pub report-spec : {M : Type 1} → statement M
 report-spec = tie.close (tie.spec figures-requires redundant-requires verdict-requires text-of-requires returns)

@@ -74,7 +74,9 @@ leads-to-requires c κs =
     let delay = c .before .before .before .before .before .before .before .before .before .before .before .before .before .before .before .before .before .before .before .before .before .before .before .before .before .args .delay .now in
     let j = c .before .before .before .before .before .before .before .before .before .before .before .before .before .before .before .before .loop .j in
     let ends = c .before .before .before .before .before .before .before .before .before .before .before .before .before .before .before .before .before .before .before .before .before .before .before .before .before .pre .1 .1 .0 .ends (heldEdge source sink delay j) (edge-in source sink delay j (c .before .before .before .before .before .before .before .before .before .before .before .before .before .before .before .loop-test .taken)) in
-    (omega (arith, c .before .before .before .before .before .before .before .before .before .before .before .before .before .before .before .before .before .before .before .before .before .before .before .before .before .pre .1 .0 .1 (getD sink j 0) (ends .1), c .before .before .before .before .before .before .before .before .before .before .before .before .processor-of .ensures, c .before .before .before .before .before .before .before .before .before .before .before .before .before .before .before .before .before .before .before .before .before .before .before .before .before .pre .1 .1 .1 .0 .room), omega (arith, c .before .before .before .before .before .before .before .before .before .before .before .before .before .before .before .before .before .before .before .before .before .before .before .before .before .pre .1 .0 .1 (getD source j 0) (ends .0), c .before .before .before .before .before .before .before .before .before .before .before .processor-of2 .ensures))
+    let from = c .before .before .before .before .before .before .before .before .before .before .before .before .before .before .before .before .before .before .before .before .before .before .before .before .before .pre .1 .0 .1 (getD sink j 0) (ends .1) in
+    let to = c .before .before .before .before .before .before .before .before .before .before .before .before .before .before .before .before .before .before .before .before .before .before .before .before .before .pre .1 .0 .1 (getD source j 0) (ends .0) in
+    (omega (arith, from, c .before .before .before .before .before .before .before .before .before .before .before .before .processor-of .ensures, to, c .before .before .before .before .before .before .before .before .before .before .before .processor-of2 .ensures, c .before .before .before .before .before .before .before .before .before .before .before .before .before .before .before .before .before .before .before .before .before .before .before .before .before .pre .1 .1 .1 .0 .room), omega (arith, from, c .before .before .before .before .before .before .before .before .before .before .before .before .processor-of .ensures, to, c .before .before .before .before .before .before .before .before .before .before .before .processor-of2 .ensures))
 
 one-if-requires : tie.Need-one-if-requires Inv-loop μ-loop
 one-if-requires c κs = search needs

@@ -44,10 +44,10 @@ report-requires : tie.Need-report-requires
 report-requires c κs = search needs
 
 array-share-prefix-bytes : tie.Need-array-share-prefix-bytes
-array-share-prefix-bytes c = reported-within (c .before .report .ensures)
+array-share-prefix-bytes c = reported-within _ _ (c .before .report .ensures)
 
 slice-aggregate-write-all : tie.Need-slice-aggregate-write-all
-slice-aggregate-write-all c = reported-counted (c .before .before .report .ensures)
+slice-aggregate-write-all c = reported-counted _ _ (c .before .before .report .ensures)
 
 write-all-requires : tie.Need-write-all-requires
 write-all-requires c κs = search needs

@@ -1,5 +1,5 @@
--- `verdict::verdict` meets its contract: each way out is an answer that `VerdictAnswer` allows.
-use Rattle.verdict.proofs.Answers.{graph-refused, proposal-refused, judgeable, judged-here, open-here, judged-answer, sizes}
+-- `verdict::verdict` meets its contract: each way out is `verdictOf` the two files.
+use Rattle.verdict.proofs.Answers.{graph-refused, proposal-refused, judgeable, judged-here, judged-answer, sizes}
 use borrow.Author.Needs.{needs}
 use Rattle.verdict.proofs.verdict.Statement.{statement}
 use Rattle.verdict.proofs.verdict.Tie as tie
@@ -29,12 +29,12 @@ judge-requires : tie.Need-judge-requires
 judge-requires c κs = judgeable (c .before .before .before .before .before .before .before .before .before .before .before .before .args .graph .now) (c .before .before .before .before .before .before .before .before .before .before .before .before .args .proposal .now) (c .before .before .before .before .before .before .before .before .before .accept .ensures) (c .before .before .before .before .before .before .if1 .left) (c .before .before .before .read-proposal .ensures) (c .if2 .left)
 
 weighed-requires : tie.Need-weighed-requires
-weighed-requires c κs = sizes (c .before .before .before .before .before .before .before .before .before .before .before .before .before .args .graph .now) (c .before .before .before .before .before .before .before .before .before .before .before .before .before .args .proposal .now) (c .before .before .before .before .before .before .before .before .before .before .accept .ensures) (c .before .before .before .before .before .before .before .if1 .left) (c .before .before .before .before .read-proposal .ensures) (c .before .if2 .left) (judged-here (c .before .before .before .before .before .before .before .before .before .before .before .before .before .args .graph .now) (c .before .before .before .before .before .before .before .before .before .before .before .before .before .args .proposal .now) (c .before .before .before .before .before .before .before .before .before .before .accept .ensures) (c .before .before .before .before .before .before .before .if1 .left) (c .before .before .before .before .read-proposal .ensures) (c .before .if2 .left) (c .judge .ensures .0))
+weighed-requires c κs = sizes (c .before .before .before .before .before .before .before .before .before .before .before .before .before .args .graph .now) (c .before .before .before .before .before .before .before .before .before .before .before .before .before .args .proposal .now) (c .before .before .before .before .before .before .before .before .before .before .accept .ensures) (c .before .before .before .before .before .before .before .if1 .left) (c .before .before .before .before .read-proposal .ensures) (c .before .if2 .left) (judged-here (c .before .before .before .before .before .before .before .before .before .before .before .before .before .args .graph .now) (c .before .before .before .before .before .before .before .before .before .before .before .before .before .args .proposal .now) (c .before .before .before .before .before .before .before .before .before .before .accept .ensures) (c .before .before .before .before .before .before .before .if1 .left) (c .before .before .before .before .read-proposal .ensures) (c .before .if2 .left) (c .judge .ensures))
 
 returns-3 : tie.Need-returns-3
 returns-3 c =
-    judged-answer (c .before .before .before .before .before .before .before .before .before .before .before .before .before .before .args .graph .now) (c .before .before .before .before .before .before .before .before .before .before .before .before .before .before .args .proposal .now) (c .before .before .before .before .before .before .before .before .before .before .before .accept .ensures) (c .before .before .before .before .before .before .before .before .if1 .left) (c .before .before .before .before .before .read-proposal .ensures) (c .before .before .if2 .left) (judged-here (c .before .before .before .before .before .before .before .before .before .before .before .before .before .before .args .graph .now) (c .before .before .before .before .before .before .before .before .before .before .before .before .before .before .args .proposal .now) (c .before .before .before .before .before .before .before .before .before .before .before .accept .ensures) (c .before .before .before .before .before .before .before .before .if1 .left) (c .before .before .before .before .before .read-proposal .ensures) (c .before .before .if2 .left) (c .before .judge .ensures .0))
-    (λ thirteen. open-here (c .before .before .before .before .before .before .before .before .before .before .before .before .before .before .args .graph .now) (c .before .before .before .before .before .before .before .before .before .before .before .before .before .before .args .proposal .now) (c .before .before .before .before .before .before .before .before .before .before .before .accept .ensures) (c .before .before .before .before .before .before .before .before .if1 .left) (c .before .before .before .before .before .read-proposal .ensures) (c .before .before .if2 .left) (c .before .judge .ensures .1 thirteen)) (c .weighed .ensures .0) (c .weighed .ensures .1 .0) (c .weighed .ensures .1 .1)
+    judged-answer (c .before .before .before .before .before .before .before .before .before .before .before .before .before .before .args .graph .now) (c .before .before .before .before .before .before .before .before .before .before .before .before .before .before .args .proposal .now) (c .before .before .before .before .before .before .before .before .before .before .before .accept .ensures) (c .before .before .before .before .before .before .before .before .if1 .left) (c .before .before .before .before .before .read-proposal .ensures) (c .before .before .if2 .left) (judged-here (c .before .before .before .before .before .before .before .before .before .before .before .before .before .before .args .graph .now) (c .before .before .before .before .before .before .before .before .before .before .before .before .before .before .args .proposal .now) (c .before .before .before .before .before .before .before .before .before .before .before .accept .ensures) (c .before .before .before .before .before .before .before .before .if1 .left) (c .before .before .before .before .before .read-proposal .ensures) (c .before .before .if2 .left) (c .before .judge .ensures))
+    (c .weighed .ensures .0) (c .weighed .ensures .1 .0) (c .weighed .ensures .1 .1)
 
 pub verdict-spec : {M : Type 1} → statement M
 verdict-spec =

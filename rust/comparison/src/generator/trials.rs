@@ -94,10 +94,11 @@ pub fn hold_against_runs(
         tried.cycles += 1;
         let cycles = simple_cycles(&result);
         let on_cycle = |edge: &Edge| cycles.iter().any(|cycle| cycle.contains(edge));
+        let first = proposed.iter().position(on_cycle);
         if number == 13 {
-            assert!(on_cycle(&proposed[place - 1]), "not on a cycle");
+            assert_eq!(first, Some(place - 1), "not the first on a cycle");
         } else {
-            assert!(!proposed.iter().any(on_cycle), "on a cycle");
+            assert_eq!(first, None, "on a cycle");
             assert_eq!(cycles, simple_cycles(graph), "other cycles");
         }
     }
