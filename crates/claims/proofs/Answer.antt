@@ -9,7 +9,7 @@ use Rattle.model.specs.Graph.{WellFormedEdges, count}
 use Rattle.files.specs.declared.Refusal.{Refusal}
 use Rattle.files.specs.Files.{graphOf, proposalOf, proposalRefusal}
 use Rattle.files.specs.Refusals.{first}
-use Rattle.files.proofs.First.{passes, stops, number-same, zero-or-not, last-answer}
+use Rattle.files.proofs.First.{passes, stops, number-same, zero-or-not}
 use Rattle.files.proofs.Numbers.{proposal-numbers}
 use Rattle.readings.proofs.Accepted.{proposal-formed}
 use Rattle.readings.proofs.Passed.{head-passed, tail-passed}
@@ -22,6 +22,7 @@ use Rattle.judgement.specs.Judgement.{judgedRefusal}
 use Rattle.judgement.specs.Theorems.{Sentenced}
 use Rattle.judgement.proofs.Meanings.{sentenced-iff}
 use Rattle.verdict.specs.Verdict.{verdictOf, verdictRefusal, toldLate}
+use Rattle.verdict.proofs.Answers.{chain}
 use Rattle.claims.specs.Demand3.{WellFormedFile}
 
 -- a number above all those of a check is not that check's
@@ -64,11 +65,7 @@ module _ (s p : List ℕ) where
 
   module _ (graph : AcceptedFile s) (formed : WellFormedFile s p) where
     pub refusal-judged : verdictRefusal s p ≡ judgedRefusal (graphOf s) (proposalOf p)
-    unfolding judgedRefusal
-    refusal-judged =
-        whole ∙
-        (passes (acceptanceRefusal s) (proposalRefusal (tasksOf s) p ∷ judged ∷ []) (accepted-iff-passed s .1 graph) ∙
-        (passes (proposalRefusal (tasksOf s) p) (judged ∷ []) formed ∙ last-answer _))
+    refusal-judged = chain s p (accepted-iff-passed s .1 graph) formed
 
     pub number-judged : verdictOf s p .outcome .number ≡ judgedRefusal (graphOf s) (proposalOf p) .number
     number-judged = number-is ∙ number-same refusal-judged

@@ -62,6 +62,12 @@ module _ (s p : List ℕ) where
       (stops (acceptanceRefusal s) _ (λ z. some (number-same same ∙ z)) ∙ sym same)
       some (λ z. omega (arith, z, up-to-12 s, number-same same)) told
 
+-- ── The chain of checks, past the files ──
+
+pub chain : (s p : List ℕ) → acceptanceRefusal s .number ≡ 0 → proposalRefusal (tasksOf s) p .number ≡ 0 → verdictRefusal s p ≡ judgedRefusal (graphOf s) (proposalOf p)
+unfolding verdictRefusal judgedRefusal
+chain s p passed read = passes (acceptanceRefusal s) _ passed ∙ (passes (proposalRefusal (tasksOf s) p) _ read ∙ last-answer _)
+
 module _ (s p : List ℕ) {a : Acceptance} (is : a ≡ acceptance s) (passed : a .refusal .number ≡ 0) {q : ProposalReading} (read : q ≡ proposalReading (a .reading .tasks) p) where
   graph-passed : acceptanceRefusal s .number ≡ 0
   graph-passed = number-same (sym (refusal-given s is)) ∙ passed
@@ -126,10 +132,6 @@ module _ (s p : List ℕ) {a : Acceptance} (is : a ≡ acceptance s) (passed : a
         let same = ap (λ (x : Judgement). x .latency) judged in
         (omega (arith, fits, read-fronts s is passed .bound-is), omega (arith, same, small))
 
-    chain : verdictRefusal s p ≡ judgedRefusal (graphOf s) (proposalOf p)
-    unfolding verdictRefusal judgedRefusal
-    chain = passes (acceptanceRefusal s) _ graph-passed ∙ (passes (proposalRefusal (tasksOf s) p) _ proposal-passed ∙ last-answer _)
-
     -- where latency and margin are told, the judgement tells the latency
     told-alike :
         (refusal : Refusal) (b l : ℕ) →
@@ -167,7 +169,7 @@ module _ (s p : List ℕ) {a : Acceptance} (is : a ≡ acceptance s) (passed : a
     module _ {j : Judgement} (judged : j ≡ judgement (graphOf s) (proposalOf p)) where
       refusal-is : j .refusal ≡ verdictRefusal s p
       unfolding judgement
-      refusal-is = ap (λ (x : Judgement). x .refusal) judged ∙ sym chain
+      refusal-is = ap (λ (x : Judgement). x .refusal) judged ∙ sym (chain s p graph-passed proposal-passed)
 
       latency-is : j .latency ≡ counted (tellsLatency (j .refusal .number)) (resultLatency s p)
       unfolding judgement resultLatency
