@@ -15,7 +15,7 @@ use lib.Seq.{take-at}
 use borrow.Author.Tests.{lt-ltb, le-ltb}
 use Rattle.model.specs.Lists.{keep, sumOver, sumBelow, counted, always}
 use Rattle.model.specs.Tasks.{Edge, _∈_, Ends}
-use Rattle.model.specs.Graph.{count, edges, timeOf}
+use Rattle.model.specs.Graph.{edges, timeOf}
 use Rattle.model.specs.Paths.{Least, Redundant, Latency, NoneOnCycle}
 use Rattle.model.specs.Runs.{Times, Keeps, Earliest, estimates, MissesBound}
 use Rattle.model.specs.Compute.{isFeedback}

@@ -139,6 +139,7 @@ finds n number test {P} some decides = go (first-from test 0 n)
         (found-nowhere n number test (λ i l. is-false (test i) (all i (omega arith) (omega arith))))
 
 module _ {n number : ℕ} {P : ℕ → Type 0} {r : Refusal} where
+  -- what is refused, from where it stands
   pub nothing-there : Finds n number P r → ((j : ℕ) → j < n → P j → ⊥) → r ≡ notRefused
   nothing-there (at-none none is) clear = is
   nothing-there (at-first j below there none is) clear = absurd (clear j below there)
@@ -153,9 +154,10 @@ module _ {n number : ℕ} {P : ℕ → Type 0} {r : Refusal} where
       same (inl l) (inr m) = absurd (before j m there)
       same (inl l) (inl m) = omega arith
 
+  -- where it stands, from what is refused
   pub nothing-found : Finds n number P r → number ≢ 0 → r .number ≡ 0 → (j : ℕ) → j < n → P j → ⊥
   nothing-found (at-none clear is) some none = clear
-  nothing-found (at-first j below there first-there is) some none = absurd (some (number-same (sym is) ∙ none))
+  nothing-found (at-first j below there earlier is) some none = absurd (some (number-same (sym is) ∙ none))
 
   pub number-found : Finds n number P r → r .number ≢ 0 → r .number ≡ number
   number-found (at-none none is) some = absurd (some (number-same is))

@@ -74,7 +74,7 @@ ResultLatency = latencyOf (result desk proposal) ≡ 10
 
 -- ── Each refusal of a proposal, met ──
 
--- "0→2, 1→3, and 3→0 with delay 1: 13, place 1, 2 or 3"
+-- "0→2, 1→3, and 3→0 with delay 1: 13, place 1, 2 or 3": each of the three lies on a cycle of the result; 02 (iv) gives the first
 abbrev pub looped : List Edge
 looped = edge 0 2 0 ∷ edge 1 3 0 ∷ edge 3 0 1 ∷ []
 
