@@ -1,4 +1,6 @@
 // The entry of every call: a graph file judged up to 12 and handed over by value, refusal 16 of a list too short, and the outcome that a call gives.
+#![tactic(auto)]
+
 ghost use Rattle.std.specs.Prelude.{◌≡◌, not, ◌&&◌, [], ◌∷◌, ◌≤◌, ◌<◌, eqb, length};
 ghost use Rattle.model.specs.Compute.{latency};
 ghost use Rattle.records.specs.Columns.{edges_of, at};
@@ -16,7 +18,7 @@ use waits::no_starts;
 
 // A graph file after all checks up to 12: the refusal, the latency of an accepted graph (0 if refused), and the file as read. The
 // reading's own refusal is of 1 to 8 only, so a graph that 9 to 12 refuse is still in it.
-#[derive(Drop)]
+#[derive(Clone, Copy)]
 pub struct Acceptance {
     pub refusal: Refusal,
     pub latency: u32,
@@ -26,7 +28,7 @@ pub struct Acceptance {
 // What a call says: number 0 if it succeeds, else document 01's number of the refusal, and place, latency and margin where 01
 // names them for that number, 0 elsewhere.
 #[repr(C)]
-#[derive(Drop)]
+#[derive(Clone, Copy)]
 pub struct Outcome {
     pub number: u32,
     pub place: u32,
@@ -35,7 +37,7 @@ pub struct Outcome {
 }
 
 // What checks 9 to 12 find: the refusal, and the latency if there is none.
-#[derive(Drop)]
+#[derive(Clone, Copy)]
 struct Checked {
     refusal: Refusal,
     latency: u32,

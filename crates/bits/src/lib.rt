@@ -1,4 +1,6 @@
 // Fields of bits in a list of bytes, most significant bit first, and the reader that keeps the bytes and a bit position.
+#![tactic(auto)]
+
 mod reader;
 
 ghost use Rattle.std.specs.Prelude.{◌≡◌, ◌+◌, ◌*◌, ◌≤◌, ◌<◌, ◌^◌, get_or};

@@ -4,7 +4,7 @@ ghost use Rattle.bits.specs.Bits.{field};
 
 use crate::field_at;
 
-#[derive(Drop)]
+#[derive(Clone, Copy)]
 pub struct Reader<'a> {
     pub bytes: &'a [u8],
     pub at: usize,

@@ -1,4 +1,6 @@
 // The best candidate of a step of the plan: the pair of tasks that subsumes most edges.
+#![tactic(auto)]
+
 ghost use Rattle.std.specs.Prelude.{◌≡◌, ◌⊎◌, false, List, ℕ, ◌+◌, ◌*◌, ◌≤◌, ◌<◌, min, length};
 ghost use Rattle.model.specs.Tasks.{Edge};
 ghost use Rattle.delays.specs.Delays.{delay_table};
@@ -8,7 +10,7 @@ ghost use Rattle.candidates.specs.Searches.{worth_counted, BestBefore, units_of,
 use delays::{FAR, WIDTH};
 
 // A pair of tasks and how many edges it subsumes; below 2 if there is no pair to take.
-#[derive(Drop)]
+#[derive(Clone, Copy)]
 pub struct Pair {
     pub gain: u32,
     pub source: u32,

@@ -1,6 +1,8 @@
 // The demands and the change requests as theorems over the contracts of the code: specs/ has the statements, proofs/ the proofs. The functions here promise
 // once more what the exported calls promise, in the definitions that the demands speak of: a promise that an exported call did not give could not be proved.
 // That of resync_plan, which lends records, stands in proofs/Promises.antt.
+#![tactic(auto)]
+
 ghost use Rattle.std.specs.Prelude.{◌≡◌, length};
 ghost use Rattle.acceptance.specs.Outcomes.{outcome};
 ghost use Rattle.figures.specs.Figures.{figures_of};

@@ -1,6 +1,8 @@
 // Least delays, row by row, and paths by them. A row is worked out as by Bellman and Ford: a task is scanned when its entry in the row has fallen, and lowers
 // the row along the ways out of it, until no entry has fallen that was not scanned. What is known of those ways stands in a square: the single steps out of
 // a task, or its whole row of least delays once that is finished. What a finished row has lowered need not be scanned again.
+#![tactic(auto)]
+
 ghost use Rattle.std.specs.Prelude.{◌≡◌, true, ◌||◌, List, ◌++◌, ℕ, ◌+◌, ◌*◌, ◌≤◌, ◌<◌, min, eqb, length, get_or, drop, replicate};
 ghost use Rattle.model.specs.Tasks.{Edge};
 ghost use Rattle.model.specs.Compute.{present, least_delay};

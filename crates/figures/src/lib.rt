@@ -1,4 +1,6 @@
 // The call for the figures of a graph. It asks nothing of its caller.
+#![tactic(auto)]
+
 ghost use Rattle.std.specs.Prelude.{◌≡◌};
 ghost use Rattle.figures.specs.Figures.{figures_of};
 
@@ -6,7 +8,7 @@ use acceptance::{Outcome, accept, told};
 
 // Tasks, edges and latency of a graph; 0 if it is refused.
 #[repr(C)]
-#[derive(Drop)]
+#[derive(Clone, Copy)]
 pub struct GraphFigures {
     pub outcome: Outcome,
     pub tasks: u32,

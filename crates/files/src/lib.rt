@@ -1,4 +1,6 @@
 // Which refusal of 1 to 8 a file gets: the checks of graph and proposal files, in document 01's sequence.
+#![tactic(auto)]
+
 mod checks;
 mod headers;
 
@@ -7,7 +9,7 @@ pub use headers::{graph_frame_refusal, proposal_frame_refusal};
 
 // Why a file is refused: document 01's number and place. Number 0: it is not.
 #[repr(C)]
-#[derive(Drop)]
+#[derive(Clone, Copy)]
 pub struct Refusal {
     pub number: u32,
     pub place: u32,

@@ -1,4 +1,6 @@
 // The first stage of the plan: the feedforward edges that are not redundant.
+#![tactic(auto)]
+
 ghost use Rattle.std.specs.Prelude.{◌≡◌, List, ◌++◌, ◌+◌, ◌*◌, ◌≤◌, length, drop};
 ghost use Rattle.model.specs.Tasks.{Edge, Ends};
 ghost use Rattle.records.specs.Columns.{edges_of};

@@ -1,4 +1,6 @@
 // Refusals 13 to 15: the judgement of proposed edges beside an accepted graph. No file is asked for: the edges may come from anywhere.
+#![tactic(auto)]
+
 ghost use Rattle.std.specs.Prelude.{◌≡◌, false, List, ℕ, ◌≤◌, ◌<◌, length};
 ghost use Rattle.model.specs.Tasks.{Edge};
 ghost use Rattle.model.specs.Graph.{count, edges};
@@ -21,7 +23,7 @@ use readings::{GraphReading, ProposalReading};
 use results::{ResultEdges, result_edges};
 
 // The judgement of proposed edges: the refusal, and the latency of the result if it is accepted or late, 0 otherwise.
-#[derive(Drop)]
+#[derive(Clone, Copy)]
 pub struct Judgement {
     pub refusal: Refusal,
     pub latency: u32,

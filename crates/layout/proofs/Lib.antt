@@ -1,3 +1,2 @@
 -- The proofs that other crates may cite.
 pub mod Records
-pub mod Steps

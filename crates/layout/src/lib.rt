@@ -1,4 +1,6 @@
 // Where the fields of the two files stand. The headers and records are read by a `Reader`; callers hand over plain bytes.
+#![tactic(auto)]
+
 ghost use Rattle.std.specs.Prelude.{◌≡◌, ◌≤◌};
 ghost use Rattle.bits.specs.Bits.{field};
 ghost use Rattle.layout.specs.Layout.{graph_header, proposal_header, task_at, edge_at};
@@ -13,7 +15,7 @@ pub const PROPOSAL_HEADER_BITS: usize = 16;
 pub const RECORD_BITS: usize = 20;
 
 // Version 5 bits, tasks 7, edges 9, latency input 6, latency output 6, bound 23.
-#[derive(Drop)]
+#[derive(Clone, Copy)]
 pub struct GraphHeader {
     pub version: u32,
     pub tasks: u32,
@@ -24,7 +26,7 @@ pub struct GraphHeader {
 }
 
 // Version 5 bits, edges 9, two zero bits.
-#[derive(Drop)]
+#[derive(Clone, Copy)]
 pub struct ProposalHeader {
     pub version: u32,
     pub edges: u32,
@@ -81,7 +83,7 @@ pub fn proposal_header(bytes: &[u8]) -> ProposalHeader
 }
 
 // A task's record: processor 4 bits, time 16.
-#[derive(Drop)]
+#[derive(Clone, Copy)]
 pub struct TaskRecord {
     pub processor: u8,
     pub time: u16,
@@ -100,7 +102,7 @@ pub fn task_at(bytes: &[u8], position: usize) -> TaskRecord
 
 // An edge's record: source 6 bits, sink 6, delay 8.
 #[repr(C)]
-#[derive(Drop)]
+#[derive(Clone, Copy)]
 pub struct EdgeRecord {
     pub source: u8,
     pub sink: u8,

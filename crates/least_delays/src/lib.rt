@@ -1,4 +1,6 @@
 // The call for the least delays of a graph. It asks nothing of its caller; a refused one leaves the lent list as it was.
+#![tactic(auto)]
+
 ghost use Rattle.std.specs.Prelude.{◌≡◌, length};
 ghost use Rattle.acceptance.specs.Outcomes.{outcome};
 ghost use Rattle.least_delays.specs.LeastDelays.{delays_refusal, delays_after};

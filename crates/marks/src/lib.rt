@@ -1,17 +1,19 @@
 // Marks of up to 256 edges in four words, edge 1 the most significant bit of the first word: how many are set, and where.
+#![tactic(auto)]
+
 ghost use Rattle.std.specs.Prelude.{◌≡◌, true, false, ℕ, ◌-◌, ◌≤◌, ◌<◌, replicate};
 ghost use Rattle.marks.specs.Marks.{bit_of, mark_at, set_below, places_of, FirstSet};
 
 // 256 marks.
 #[repr(C)]
-#[derive(Drop)]
+#[derive(Clone, Copy)]
 pub struct Marks {
     pub words: [u64; 4],
 }
 
 // Places of marks, counted from 1, ascending, 0 past them.
 #[repr(C)]
-#[derive(Drop)]
+#[derive(Clone, Copy)]
 pub struct Places {
     pub count: u32,
     pub place: [u32; 256],

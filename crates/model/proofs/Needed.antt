@@ -1,7 +1,7 @@
 -- Two hypotheses that the theorems cannot do without, each shown by a counterexample: no two equal edges, for dropping redundant edges
 -- together; and the tasks' own cycles, for the orders.
 use mathlib.Core.Path.{refl, sym, subst}
-use mathlib.Core.List.Memᴰ.{head as here}
+use mathlib.Core.List.Memᴰ.{head as here, tail as there}
 use mathlib.Core.List.{List, [], ◌∷◌}
 use Prim.Native.Nat.{zero, suc, ◌+◌, ◌≤◌}
 use native.Mathlib.Omega.{arith}
@@ -66,6 +66,7 @@ serial-is-needed claim = absurd (broken ((claim 2 later together bounds acyclic 
         turns (suc zero) l h = lit≤ tt
         turns (suc (suc zero)) l h = lit≤ tt
         turns (suc (suc (suc k))) l h = absurd (omega arith)
+    kept e (there x4) = elim x4 [ ]
 
     run : Allows 2 together 2 overtaking (λ v k. 1)
     run = record { positive = λ v k l h h'. lit≤ tt; keeps = kept }

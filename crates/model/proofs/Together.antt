@@ -67,6 +67,7 @@ module _ {n : ℕ} {es : List Edge} (bounds : Ends n es) (acyclic : NoZeroCycle 
   edge-of-walk : {a b : ℕ} {p : List Edge} {f : Edge} → Walk es a p b → f ∈ p →
       suc n * f.delay + depth n es f.sink + length p + depth n es a ≤ suc n * total p + depth n es b + depth n es f.source + 1
   unfolding total
+  edge-of-walk {f = f} (stop {a = a} {b = b} _) x6 = elim x6 [ ]
   edge-of-walk {f = f} (step {e = e} {p = p} m s w) (here q) =
       let rest = walk-weighs w in
       let same = ap (depth n es) s in

@@ -80,6 +80,7 @@ module _ {es : List Edge} where
       (e ∈ es) × (before : List Edge) × (after : List Edge) × Walk es a before e.source × Walk es e.sink after b ×
       (total p ≡ total before + (e.delay + total after))
   unfolding total
+  walk_split {e = e} (stop {a = a} {b = b} _) x6 = elim x6 [ ]
   walk_split {b = b} {e = e} (step {e = x} {p = p} m s w) (here q) = (
     subst (λ (y : Edge). y ∈ es) (sym q) m,
     [],

@@ -1,5 +1,7 @@
 // The call for the plan of a graph: its first stage, and steps from stage to stage until no candidate subsumes two edges, into a lent list of edge records.
 // The call asks nothing of its caller.
+#![tactic(auto)]
+
 ghost use Rattle.std.specs.Prelude.{◌≡◌, List, ◌++◌, ℕ, length};
 ghost use Rattle.model.specs.Graph.{count, edges};
 ghost use Rattle.model.specs.Plan.{first_stage};
@@ -21,7 +23,7 @@ use steps::follow_steps;
 
 // The plan of a graph: how many edges it lists, how many steps it took, and the latency of the graph it leads to; 0 if it is refused.
 #[repr(C)]
-#[derive(Drop)]
+#[derive(Clone, Copy)]
 pub struct PlanAnswer {
     pub outcome: Outcome,
     pub length: u32,
@@ -30,7 +32,7 @@ pub struct PlanAnswer {
 }
 
 // The plan of an accepted graph: its edges, how many steps led to it, and the latency of the graph it leads to.
-#[derive(Drop)]
+#[derive(Clone, Copy)]
 struct GraphPlan {
     stage: StageEdges,
     steps: u32,
@@ -38,7 +40,7 @@ struct GraphPlan {
 }
 
 // What the call answers, and the edges it writes: none if it is refused.
-#[derive(Drop)]
+#[derive(Clone, Copy)]
 struct Decided {
     answer: PlanAnswer,
     stage: StageEdges,

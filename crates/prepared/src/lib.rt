@@ -1,4 +1,6 @@
 // What the steps of a plan start from: delays and counts of the first stage, in rows of 64 numbers.
+#![tactic(auto)]
+
 ghost use Rattle.std.specs.Prelude.{◌≡◌, List, ◌++◌, ℕ, ◌*◌, ◌≤◌, length};
 ghost use Rattle.model.specs.Graph.{count, edges};
 ghost use Rattle.model.specs.Plan.{first_stage};

@@ -1,11 +1,13 @@
 // Which processors a path leads to: a word for each, by Warshall's algorithm.
+#![tactic(auto)]
+
 ghost use Rattle.std.specs.Prelude.{◌≡◌, ◌||◌, ◌&&◌, List, ℕ, ◌≤◌, ◌<◌, max, eqb, length, get_or, replicate};
 ghost use Rattle.model.specs.Tasks.{Edge};
 ghost use Rattle.records.specs.Columns.{edges_of, at};
 ghost use Rattle.reach.specs.Reach.{bit, Reaches, ReachesThrough, Merged, processors_of, Circled, ReachesOn};
 
 // Word a, bit b: a path leads from processor a to processor b.
-#[derive(Drop)]
+#[derive(Clone, Copy)]
 pub struct Reach {
     pub words: [u64; 16],
 }

@@ -1,4 +1,6 @@
 // Reading a file: which graph or proposal the bytes are, in the working form, or which refusal of 1 to 8 they get.
+#![tactic(auto)]
+
 mod graphs;
 mod proposals;
 
@@ -8,7 +10,7 @@ pub use proposals::read_proposal;
 
 // A graph file as read, by value. The edges that order the graph stand in one list: processor edges first, entry v the one out of task v, then from
 // entry `tasks` on those of the file. Past the ends, and in a refused reading, every number is 0.
-#[derive(Drop)]
+#[derive(Clone, Copy)]
 pub struct GraphReading {
     pub refusal: Refusal,
     pub tasks: u32,
@@ -24,7 +26,7 @@ pub struct GraphReading {
 }
 
 // A proposal file as read, by value. Past the end, and in a refused reading, every number is 0.
-#[derive(Drop)]
+#[derive(Clone, Copy)]
 pub struct ProposalReading {
     pub refusal: Refusal,
     pub edges: u32,

@@ -1,4 +1,6 @@
 // Tasks and edges of a file, and processor edges, into lists of numbers: one list for each number of a task or of an edge.
+#![tactic(auto)]
+
 ghost use Rattle.std.specs.Prelude.{◌≡◌, List, ◌+◌, ◌≤◌, length, take, replicate};
 ghost use Rattle.model.specs.Lists.{tabulate};
 ghost use Rattle.model.specs.Tasks.{Task};

@@ -1,6 +1,8 @@
 // Which synchronization edges are redundant. Edge (s, t, d) is, exactly if a path from s to t has less delay than d, or a path from s to the source of an
 // edge to t has, with that edge, at most d. The edge itself does not count as that last edge: a cycle from s to s has delay 1 at least.
 // So a row of least delays out of s and a row of last steps to t are added, entry by entry, and the least sum is held to d.
+#![tactic(auto)]
+
 ghost use Rattle.std.specs.Prelude.{◌≡◌, ℕ, ◌+◌, ◌≤◌, ◌<◌, length, get_or};
 ghost use Rattle.model.specs.Lists.{counted};
 ghost use Rattle.records.specs.Columns.{edges_of};

@@ -1,4 +1,6 @@
 // The call for the redundant edges of a graph. It asks nothing of its caller.
+#![tactic(auto)]
+
 ghost use Rattle.std.specs.Prelude.{◌≡◌};
 ghost use Rattle.model.specs.Compute.{is_redundant};
 ghost use Rattle.readings.specs.Working.{graph_in};
@@ -14,7 +16,7 @@ use redundancy::redundant_marks;
 
 // The redundant edges of a graph: their marks, and how many are set. No mark if it is refused.
 #[repr(C)]
-#[derive(Drop)]
+#[derive(Clone, Copy)]
 pub struct RedundantSet {
     pub outcome: Outcome,
     pub marks: Marks,

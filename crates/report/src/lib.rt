@@ -1,4 +1,6 @@
 // The program's text: the lines of document 01 for a graph file and a proposal file.
+#![tactic(auto)]
+
 mod lines;
 
 ghost use Rattle.std.specs.Prelude.{◌≡◌};
@@ -7,7 +9,7 @@ ghost use Rattle.report.specs.Report.{report_of};
 use lines::text_of;
 
 // A text: its length, its bytes, and 0 behind them.
-#[derive(Drop)]
+#[derive(Clone, Copy)]
 pub struct Text {
     pub length: usize,
     pub bytes: [u8; 1024],

@@ -1,5 +1,7 @@
 // The result of a proposal, as lists: the graph's edges that lie on a cycle, which are its processor and feedback edges, then the
 // proposed ones.
+#![tactic(auto)]
+
 ghost use Rattle.std.specs.Prelude.{◌≡◌, List, ◌++◌, ℕ, ◌+◌, ◌≤◌, ◌<◌, length, set};
 ghost use Rattle.model.specs.Lists.{counted};
 ghost use Rattle.model.specs.Tasks.{Edge};
@@ -12,7 +14,7 @@ ghost use Rattle.results.specs.Fronts.{HeldFront};
 use reach::{leads_to, paths_between_processors, processor_of};
 
 // The edges of a result: the first `count` entries of the lists. 64 processor edges, 256 feedback edges and 256 proposed ones fit.
-#[derive(Drop)]
+#[derive(Clone, Copy)]
 pub struct ResultEdges {
     pub count: u32,
     pub source: [u8; 576],

@@ -1,4 +1,6 @@
 // The calls for C and Rust, as include/resync.h declares them: the list of the public contracts. Each hands on to the call of its crate, and promises the same.
+#![tactic(auto)]
+
 ghost use Rattle.std.specs.Prelude.{◌≡◌, length};
 ghost use Rattle.acceptance.specs.Outcomes.{outcome};
 ghost use Rattle.figures.specs.Figures.{figures_of};

@@ -1,4 +1,6 @@
 // The program of document 01: reads graph.bin and proposal.bin in the folder that it runs in, and prints the lines.
+#![tactic(auto)]
+
 ghost use Rattle.io.specs.Counts.{IsPrefixLen};
 
 use libc::STDOUT_FILENO;

@@ -1,4 +1,6 @@
 // A stage of the plan: the edges that stand where a graph's feedforward edges stood.
+#![tactic(auto)]
+
 ghost use Rattle.std.specs.Prelude.{◌≡◌, length};
 
 mod listing;
@@ -8,7 +10,7 @@ pub use listing::fill;
 pub use replacing::replace;
 
 // The edges of a stage: the first `count` entries of the lists.
-#[derive(Drop)]
+#[derive(Clone, Copy)]
 pub struct StageEdges {
     pub count: u32,
     pub source: [u8; 256],

@@ -1,5 +1,7 @@
 // The steps of the plan from stage to stage: in each the best candidate is added, and what it subsumes is dropped, until no candidate subsumes two edges.
 // Least delays, how many edges each pair of tasks subsumes, and the times of the first turn are kept from step to step.
+#![tactic(auto)]
+
 ghost use Rattle.std.specs.Prelude.{List};
 ghost use Rattle.model.specs.Tasks.{Edge};
 ghost use Rattle.model.specs.Graph.{Graph};
@@ -11,7 +13,7 @@ use stages::replace;
 use subsumption::add_pair;
 
 // What a step gives: whether a candidate was taken, which one, and how many edges the stage has after it.
-#[derive(Drop)]
+#[derive(Clone, Copy)]
 pub struct StepAnswer {
     pub taken: bool,
     pub source: usize,
@@ -20,7 +22,7 @@ pub struct StepAnswer {
 }
 
 // The last stage, to which the steps lead: how many edges it has, how many steps were taken, and the latency of the graph they lead to.
-#[derive(Drop)]
+#[derive(Clone, Copy)]
 pub struct LastStage {
     pub count: usize,
     pub steps: u32,

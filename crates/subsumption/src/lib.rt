@@ -3,6 +3,8 @@
 // above its delay: for each pair for which the delay from its source to the pair's, and from the pair's sink to its own, add up to less. Delays are
 // at most 16,383, so that a signed test may compare them. Most rows of counts change by the same tests of a row of delays: these are worked out once, as
 // a row of ones and zeros, and again only when the limit is another.
+#![tactic(auto)]
+
 ghost use Rattle.std.specs.Prelude.{◌≡◌, true, false, not, List, ℕ, ◌+◌, ◌-◌, ◌*◌, ◌≤◌, ◌<◌, leb, length};
 ghost use Rattle.model.specs.Lists.{counted, keep};
 ghost use Rattle.model.specs.Tasks.{Ends, edge};

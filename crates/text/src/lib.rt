@@ -1,5 +1,7 @@
 // Text put into a lent list of bytes, one piece behind the other: words, numbers, numbers with a sign, fields. Each function answers
 // the place behind what it put.
+#![tactic(auto)]
+
 ghost use Rattle.std.specs.Prelude.{◌≡◌, [], ◌∷◌, ◌+◌, ◌≤◌, ◌<◌, pos, negsuc, ◌<ℤ◌, length};
 ghost use Rattle.text.specs.Text.{space, decimal, signed, spaced, numbers, Appended};
 

@@ -1,4 +1,6 @@
 // Least delays in rows of 64 numbers, 16,383 where there is no path, and how they fall when a pair of tasks is joined by an edge of delay 0.
+#![tactic(auto)]
+
 ghost use Rattle.std.specs.Prelude.{◌≡◌, ℕ, ◌+◌, ◌*◌, ◌≤◌, ◌<◌, length};
 ghost use Rattle.records.specs.Columns.{at};
 ghost use Rattle.updates.specs.Updates.{Small, LineSpread, Spread, RowFell, RowLowered, RowsJoined};

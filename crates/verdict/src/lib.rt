@@ -1,4 +1,6 @@
 // The verdict on a proposal. The call asks nothing of its caller.
+#![tactic(auto)]
+
 ghost use Rattle.std.specs.Prelude.{◌≡◌, ◌<◌, pos};
 ghost use Rattle.files.specs.Refusals.{if_passed};
 ghost use Rattle.acceptance.specs.Outcomes.{outcome};
@@ -12,7 +14,7 @@ use readings::read_proposal;
 // The verdict on a proposal: the latency of its result, and the bound less that latency; 0 if it is refused, and then 15 has both
 // in its outcome.
 #[repr(C)]
-#[derive(Drop)]
+#[derive(Clone, Copy)]
 pub struct ProposalVerdict {
     pub outcome: Outcome,
     pub latency: u32,
