@@ -107,9 +107,9 @@ module _
         {c a x y : ℕ} {p : List Edge} → Walk qs x p y → a < n → at processor a ≡ x → (d : ℕ) × Path es c a d
         → (t : ℕ) × (t < n) × (at processor t ≡ y) × (d : ℕ) × Path es c t d
     onward {c} {a} (stop q) below on r = (a, below, on ∙ q, r.0, r.1)
-    onward (step {e = f} m q w) below on r =
+    onward {c = c} {a = a} (step {e = f} m q w) below on r =
         let s = lifted f m below (on ∙ sym q) in
-        onward w s.1 s.2 (r.0 + s.3, path-append r.1 s.4)
+        onward {c = c} {a = s.0} w s.1 s.2 (r.0 + s.3, path-append r.1 s.4)
 
     to-tasks : {a b d : ℕ} → a < n → b < n → Path qs (at processor a) (at processor b) d → (d : ℕ) × Path es a b d
     to-tasks {a} {b} l k r = go r.walk

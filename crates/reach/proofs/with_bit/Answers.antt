@@ -6,25 +6,17 @@ use native.Mathlib.Nat.{one-mul}
 use native.Mathlib.Omega.{arith}
 use lib.Bits.{bit_or}
 use lib.Pow.{shl_exact}
-use borrow.Author.Rules.{rules}
 use Rattle.reach.specs.Reach.{bit}
 use Rattle.reach.proofs.Bits.{bit-or, bit-power}
-use Rattle.reach.proofs.with_bit.Statement.{statement}
-use Rattle.reach.proofs.with_bit.Tie as tie
+use Rattle.reach.proofs.with_bit.Goals as goal
 
 -- `1 << at` at 64 bits
 one_shifted : (at : ℕ) → at < 64 → (1 * 2 ^ at) % 2 ^ 64 ≡ 2 ^ at
 one_shifted at l = shl_exact {a = 1} 1 at 64 (omega arith) (omega arith) ∙ one-mul (2 ^ at)
 
-shl-result : tie.Need-overflow-shl-result
-shl-result c = search rules
-
-returns : tie.Need-returns
+pub returns : goal.returns
 returns c = λ b.
     let word = c.args.word in
     let at = c.args.at in
     ap (λ (n : ℕ). bit (bit_or word n) b) (one_shifted at c.requires) ∙
     (bit-or word (2 ^ at) b ∙ ap (λ (x : Bool). bit word b || x) (bit-power at b))
-
-pub with-bit-spec : {M : Type 1} → statement M
-with-bit-spec = tie.close (tie.spec shl-result returns)

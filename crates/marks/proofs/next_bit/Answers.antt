@@ -3,19 +3,11 @@
 use mathlib.Core.Path.{ap}
 use native.Mathlib.Omega.{arith}
 use lib.Count.{count_leading_zeros}
-use borrow.Author.Rules.{rules}
 use Rattle.marks.proofs.Leading.{first_bit, masked}
-use Rattle.marks.proofs.next_bit.Statement.{statement}
-use Rattle.marks.proofs.next_bit.Tie as tie
+use Rattle.marks.proofs.next_bit.Goals as goal
 
-shr-result : tie.Need-overflow-shr-result
-shr-result c = search rules
-
-returns : tie.Need-returns
+pub returns : goal.returns
 returns c =
     let word = c.args.word in
     let from = c.args.from in
     first_bit word from c.requires (omega (arith, ap (count_leading_zeros 64) (masked word from c.requires)))
-
-pub next-bit-spec : {M : Type 1} → statement M
-next-bit-spec = tie.close (tie.spec shr-result returns)
