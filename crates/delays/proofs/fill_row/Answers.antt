@@ -17,14 +17,6 @@ overflow_add-end c = omega (arith, row-end c.requires.0, product_small c.args.ta
 pub offset_bounds-table-at : goal.offset_bounds-table-at
 offset_bounds-table-at c = omega (arith, row-end c.requires.0, product_small c.args.tasks c.args.tasks c.requires.2.1.few c.requires.2.1.few)
 
--- GONE slice-bounds-make-row-start
--- part-make-row-start : tie.Need-slice-bounds-make-row-start
--- part-make-row-start c = search rules
-
--- GONE slice-bounds-make-row-end
--- part-make-row-end : tie.Need-slice-bounds-make-row-end
--- part-make-row-end c = omega (arith, row-end c.before.before.before.requires.0, c.before.before.before.requires.1)
-
 pub make_row-requires : goal.make_row-requires
 make_row-requires c = (subst (λ (k : ℕ). c.args.a < k) (sym (part-size c.requires.0 c.args.table.now c.requires.1)) c.requires.0, (c.requires.2.0, part-known c.requires.0 c.args.table.now c.requires.1 c.requires.2.1))
 

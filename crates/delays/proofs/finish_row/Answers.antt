@@ -12,14 +12,6 @@ use Rattle.delays.proofs.finish_row.Goals as goal
 pub returns-then-has_bit : goal.returns-then-has_bit
 returns-then-has_bit c = record { done = sym c.has_bit.ensures ∙ c.if-has_bit.true; known = λ es square. square }
 
--- GONE slice-bounds-row-start
--- part-row-start : tie.Need-slice-bounds-row-start
--- part-row-start c = search rules
-
--- GONE slice-bounds-row-end
--- part-row-end : tie.Need-slice-bounds-row-end
--- part-row-end c = search rules
-
 pub make_row-requires : goal.make_row-requires
 make_row-requires c = (subst (λ (k : ℕ). c.args.a < k) (sym (front-size c.requires.1.1.few)) c.requires.0, (c.requires.1.0, subst (λ (k : ℕ). Known k c.requires.1.0 c.args.done c.args.known.now) (sym (front-size c.requires.1.1.few)) c.requires.1.1))
 

@@ -3,30 +3,6 @@ use borrow.Rule.Slice.PartMut.{mid_len}
 use Rattle.records.proofs.Parts.{put-part}
 use Rattle.records.proofs.edges_into.Goals as goal
 
--- GONE slice-bounds-read-edges-start
--- part-read-edges-start : tie.Need-slice-bounds-read-edges-start
--- part-read-edges-start c = search rules
-
--- GONE slice-bounds-read-edges-end
--- part-read-edges-end : tie.Need-slice-bounds-read-edges-end
--- part-read-edges-end c = search rules
-
--- GONE slice-bounds-read-edges-start-2
--- part-read-edges-start-2 : tie.Need-slice-bounds-read-edges-start-2
--- part-read-edges-start-2 c = search rules
-
--- GONE slice-bounds-read-edges-end-2
--- part-read-edges-end-2 : tie.Need-slice-bounds-read-edges-end-2
--- part-read-edges-end-2 c = search rules
-
--- GONE slice-bounds-read-edges-start-3
--- part-read-edges-start-3 : tie.Need-slice-bounds-read-edges-start-3
--- part-read-edges-start-3 c = search rules
-
--- GONE slice-bounds-read-edges-end-3
--- part-read-edges-end-3 : tie.Need-slice-bounds-read-edges-end-3
--- part-read-edges-end-3 c = search rules
-
 pub returns : goal.returns
 returns c =
     let a = c.args.from in

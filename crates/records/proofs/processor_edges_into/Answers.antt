@@ -11,38 +11,6 @@ use Rattle.records.specs.Columns.{ProcessorsOf}
 use Rattle.records.proofs.Parts.{put-part}
 use Rattle.records.proofs.processor_edges_into.Goals as goal
 
--- GONE slice-bounds-processor-edges-start
--- part-processor-edges-start : tie.Need-slice-bounds-processor-edges-start
--- part-processor-edges-start c = search rules
-
--- GONE slice-bounds-processor-edges-end
--- part-processor-edges-end : tie.Need-slice-bounds-processor-edges-end
--- part-processor-edges-end c = search rules
-
--- GONE slice-bounds-processor-edges-start-2
--- part-processor-edges-start-2 : tie.Need-slice-bounds-processor-edges-start-2
--- part-processor-edges-start-2 c = search rules
-
--- GONE slice-bounds-processor-edges-end-2
--- part-processor-edges-end-2 : tie.Need-slice-bounds-processor-edges-end-2
--- part-processor-edges-end-2 c = search rules
-
--- GONE slice-bounds-processor-edges-start-3
--- part-processor-edges-start-3 : tie.Need-slice-bounds-processor-edges-start-3
--- part-processor-edges-start-3 c = search rules
-
--- GONE slice-bounds-processor-edges-end-3
--- part-processor-edges-end-3 : tie.Need-slice-bounds-processor-edges-end-3
--- part-processor-edges-end-3 c = search rules
-
--- GONE slice-bounds-processor-edges-start-4
--- part-processor-edges-start-4 : tie.Need-slice-bounds-processor-edges-start-4
--- part-processor-edges-start-4 c = search rules
-
--- GONE slice-bounds-processor-edges-end-4
--- part-processor-edges-end-4 : tie.Need-slice-bounds-processor-edges-end-4
--- part-processor-edges-end-4 c = search rules
-
 pub returns : goal.returns
 returns c =
     let n = c.args.tasks in

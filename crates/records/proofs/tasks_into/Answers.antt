@@ -4,22 +4,6 @@ use borrow.Rule.Slice.PartMut.{mid_len}
 use Rattle.records.proofs.Parts.{put-part}
 use Rattle.records.proofs.tasks_into.Goals as goal
 
--- GONE slice-bounds-read-tasks-start
--- part-read-tasks-start : tie.Need-slice-bounds-read-tasks-start
--- part-read-tasks-start c = search rules
-
--- GONE slice-bounds-read-tasks-end
--- part-read-tasks-end : tie.Need-slice-bounds-read-tasks-end
--- part-read-tasks-end c = search rules
-
--- GONE slice-bounds-read-tasks-start-2
--- part-read-tasks-start-2 : tie.Need-slice-bounds-read-tasks-start-2
--- part-read-tasks-start-2 c = search rules
-
--- GONE slice-bounds-read-tasks-end-2
--- part-read-tasks-end-2 : tie.Need-slice-bounds-read-tasks-end-2
--- part-read-tasks-end-2 c = search rules
-
 pub returns : goal.returns
 returns c =
     let n = c.args.tasks in
