@@ -1,0 +1,35 @@
+-- `subsumption::add_pair` meets its contract: the edges that stay are counted by the delays as they fall, then the delays fall so, and the pair's edge comes
+-- last.
+use mathlib.Core.Bool.{not}
+use native.Mathlib.Omega.{arith}
+use Rattle.model.specs.Plan.{with_pair, pair_edge}
+use Rattle.model.proofs.Plans.{length-keep}
+use Rattle.records.specs.Columns.{edges_of}
+use Rattle.records.proofs.Edges.{edges-length}
+use Rattle.subsumption.specs.Subsumption.{subsumes_by}
+use Rattle.subsumption.proofs.Totals.{counts-covered, counts-more}
+use Rattle.subsumption.proofs.add_pair.Goals as goal
+
+pub count_edge-requires : goal.count_edge-requires
+count_edge-requires c =
+    let args = c.args in
+    let rows = c.join_rows.ensures in
+    let columns = c.join_rows-2.ensures in
+    let held = c.shift_edges.ensures _ _ rows.inside columns.inside in
+    let few = c.requires.tasks_bound in
+    let kept = length-keep (λ e. not (subsumes_by args.from.now args.to.now args.a args.b e)) (edges_of args.source.now args.sink.now args.delay.now) in
+    let all = edges-length args.source.now args.sink.now args.delay.now in
+    record {
+      tasks_in_bounds = (omega (arith, rows.size, c.requires.tasks_in_bounds.0), omega (arith, columns.size, c.requires.tasks_in_bounds.1), held.size, columns.small);
+      tasks_bound = (few.0, few.1, few.2, omega arith, counts-covered held (omega (arith, kept, all, c.requires.sink_len.2)) args.a args.b);
+    }
+
+pub returns : goal.returns
+unfolding with_pair pair_edge
+returns c =
+    let rows = c.join_rows.ensures in
+    let columns = c.join_rows-2.ensures in
+    record {
+      delays = (rows, columns);
+      counts = counts-more (c.shift_edges.ensures _ _ rows.inside columns.inside) c.args.a c.args.b 0 c.count_edge.ensures;
+    }

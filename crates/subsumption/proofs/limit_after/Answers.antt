@@ -1,0 +1,14 @@
+-- `subsumption::limit_after` meets its contract, by what the test gives.
+use mathlib.Core.Path.{sym, ap, ◌∙◌}
+use mathlib.Core.Bool.{Bool, not}
+use Prim.Native.Nat.{◌+◌}
+use Rattle.model.specs.Lists.{counted}
+use Rattle.subsumption.proofs.limit_after.Goals as goal
+
+pub returns-then-is_subsumed : goal.returns-then-is_subsumed
+unfolding counted
+returns-then-is_subsumed c = ap (λ (b : Bool). counted (not b) (c.args.delay + 1)) (sym c.if-is_subsumed.true ∙ c.is_subsumed.ensures)
+
+pub returns : goal.returns
+unfolding counted
+returns c = ap (λ (b : Bool). counted (not b) (c.args.delay + 1)) (sym c.if-is_subsumed.false ∙ c.is_subsumed.ensures)
