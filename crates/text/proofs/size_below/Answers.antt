@@ -9,8 +9,8 @@ use mir.Syntax.{w32}
 use mir.Val.{SFits, Fits, to_z, of_z}
 use mir.ValLaws.{to_z-of_z}
 use Rattle.text.proofs.Signs.{Below, below}
-use Rattle.text.proofs.size_below.Statement.{statement}
-use Rattle.text.proofs.size_below.Tie as tie
+use Rattle.text.proofs.size_below.Goals as goal
+use Rattle.text.proofs.size_below.Goals.{Start}
 
 -- the difference, as the machine makes it of the numbers' bits
 abbrev made : ℤ → ℤ
@@ -21,7 +21,7 @@ made-is z f b =
     ap (λ (v : ℤ). to_z w32 (2 ^ 32 - 1) -ℤ v) (to_z-of_z w32 z f ∙ b.is) ∙
     (+ℤ_comm (negsuc 0) (pos (suc b.size)) ∙ -ℤ_one (pos (suc b.size)))
 
-module _ (c : tie.Start) where
+module _ (c : Start) where
   is_below : Below c.args.n
   is_below = below c.args.n c.ranges.n c.requires
 
@@ -31,16 +31,13 @@ module _ (c : tie.Start) where
   read_back : to_z w32 (of_z w32 (made c.args.n)) ≡ pos is_below.size
   read_back = ap (λ (v : ℤ). to_z w32 (of_z w32 v)) difference ∙ to_z-of_z w32 (pos is_below.size) (record { sfits = is_below.fits })
 
-sub-result : tie.Need-overflow-sub-result
-sub-result c = subst (λ (v : ℤ). SFits w32 v) (sym (difference c)) (record { sfits = (is_below c).ranges })
+pub overflow_sub-result : goal.overflow_sub-result
+overflow_sub-result c = subst (λ (v : ℤ). SFits w32 v) (sym (difference c)) (record { sfits = (is_below c).fits })
 
-cast-result : tie.Need-overflow-cast-result
-cast-result c =
-    let small : (is_below c).size < 2 ^ 32 = omega (arith, (is_below c).ranges) in
+pub overflow_cast-result : goal.overflow_cast-result
+overflow_cast-result c =
+    let small : (is_below c).size < 2 ^ 32 = omega (arith, (is_below c).fits) in
     subst (λ (v : ℤ). T (non_neg v) × Fits w32 (nat_abs v)) (sym (read_back c)) (tt, record { fits = small })
 
-returns : tie.Need-returns
+pub returns : goal.returns
 returns c = ap (λ (v : ℤ). negsuc (nat_abs v)) (read_back c) ∙ sym (is_below c).is
-
-pub size-below-spec : {M : Type 1} → statement M
-size-below-spec = tie.close (tie.spec sub-result cast-result returns)
