@@ -7,7 +7,7 @@ use native.Mathlib.Nat.{sub-zero}
 use native.Mathlib.Omega.{arith}
 use lib.ListN.{length, take}
 use lib.Seq.{length-take-le}
-use Rattle.model.specs.Graph.{Graph, WellFormed, edges}
+use Rattle.model.specs.Graph.{Graph, WellFormed}
 use Rattle.readings.specs.declared.GraphReading.{GraphReading}
 use Rattle.readings.specs.Working.{graph_in}
 use Rattle.starts.specs.Starts.{FileTimes}
