@@ -5,7 +5,7 @@ use mathlib.Core.Logic.{◌≢◌}
 use mathlib.Core.List.{List}
 use Prim.Native.Nat.{ℕ}
 use lib.ListN.{length}
-use Rattle.model.specs.Graph.{count, edges}
+use Rattle.model.specs.Graph.{count}
 use Rattle.model.specs.Compute.{latency_of}
 use Rattle.files.specs.Files.{graph_of}
 use Rattle.acceptance.specs.declared.Acceptance.{Acceptance}

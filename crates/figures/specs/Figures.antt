@@ -1,7 +1,6 @@
 -- Document 01, "What the calls hand over" and "Who caused a refusal": what the figures of a graph are, for every file. Of a refused call every field
 -- that 01 does not name is 0.
 use Rattle.std.specs.Prelude.{List, ℕ, length}
-use Rattle.model.specs.Graph.{edges}
 use Rattle.model.specs.Compute.{latency_of}
 use Rattle.files.specs.Files.{graph_of}
 use Rattle.files.specs.Refusals.{if_passed}

@@ -6,7 +6,6 @@ use Prim.Native.Nat.{ℕ, ◌*◌, ◌≤◌, ◌<◌, ◌+◌}
 use native.Mathlib.Omega.{arith}
 use lib.ListN.{length, get_or}
 use Rattle.model.specs.Graph.{count, edges}
-use Rattle.model.specs.Runs.{ends}
 use Rattle.model.specs.Compute.{least_delay}
 use Rattle.model.proofs.Theorems.{least-delay-is, least-bound}
 use Rattle.records.proofs.Rows.{place-within}

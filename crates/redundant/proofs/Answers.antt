@@ -3,7 +3,6 @@ use mathlib.Core.Path.{◌≡◌, sym, ap, ◌∙◌}
 use mathlib.Core.Logic.{◌≢◌}
 use mathlib.Core.List.{List}
 use Prim.Native.Nat.{ℕ}
-use Rattle.model.specs.Graph.{count}
 use Rattle.model.specs.Compute.{is_redundant}
 use Rattle.files.specs.Files.{graph_of}
 use Rattle.readings.specs.declared.GraphReading.{GraphReading}

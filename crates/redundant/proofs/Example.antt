@@ -3,7 +3,7 @@ use mathlib.Core.Path.{◌≡◌}
 use mathlib.Core.List.{[], ◌∷◌}
 use Rattle.model.specs.Lists.{counted, sum_over}
 use Rattle.model.specs.Processors.{processor_edges}
-use Rattle.model.specs.Graph.{count, edges}
+use Rattle.model.specs.Graph.{edges}
 use Rattle.model.specs.Compute.{is_redundant}
 use Rattle.files.specs.Refusals.{if_passed}
 use Rattle.files.proofs.Example.{desk_bytes, desk-file}

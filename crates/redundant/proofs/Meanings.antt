@@ -10,9 +10,7 @@ use native.Mathlib.Omega.{arith}
 use lib.Dec.{T, eqb}
 use lib.ListN.{length, get_or}
 use Rattle.model.specs.Lists.{sum_over}
-use Rattle.model.specs.Graph.{count}
 use Rattle.model.specs.Paths.{Redundant}
-use Rattle.model.specs.Runs.{ends}
 use Rattle.model.specs.Compute.{is_redundant}
 use Rattle.model.specs.Theorems.{Decides}
 use Rattle.model.proofs.Theorems.{redundant-is}

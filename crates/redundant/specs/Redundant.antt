@@ -1,7 +1,6 @@
 -- Document 01, "What the calls hand over" and "Who caused a refusal": the redundant set, for every file. Of a refused call every field
 -- that 01 does not name is 0, and no mark is set.
 use Rattle.std.specs.Prelude.{List, [], ◌∷◌, ℕ}
-use Rattle.model.specs.Graph.{count}
 use Rattle.model.specs.Compute.{is_redundant}
 use Rattle.files.specs.Files.{graph_of}
 use Rattle.files.specs.Refusals.{if_passed}
