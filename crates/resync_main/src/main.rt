@@ -1,31 +1,39 @@
 // The program of document 01: reads graph.bin and proposal.bin in the folder that it runs in, and prints the lines.
 #![tactic(auto)]
 
-ghost use Rattle.io.specs.Counts.{IsPrefixLen};
+ghost use Rattle.std.specs.Prelude.{◌≡◌, ◌≤◌, length, take};
 
-use libc::STDOUT_FILENO;
+use std::fs::File;
+use std::io;
+use std::io::{Read, Write};
 
 // Reads a file's front, as much as the list holds, and answers how many bytes it has: "A file that cannot be opened counts as empty."
-fn read_front(path: &[u8], front: &mut [u8]) -> usize
-    ensures { IsPrefixLen result front.new }
+// A read that fails ends the file there.
+fn read_front(rt: &HostRuntime, path: &str, front: &mut [u8]) -> usize
+    ensures within { result ≤ length front.new }
+    ensures counted { result ≡ length (take result front.new) }
 {
-    let file = os::open_read(path);
-    if file < 0 {
+    let Ok(mut file) = File::open(rt, path) else {
         return 0;
+    };
+    let mut length = 0;
+    while length < front.len() {
+        match file.read(&mut front[length..]) {
+            Ok(count) if count > 0 => length += count,
+            _ => break,
+        }
     }
-    let length = io::read_full(file, front);
-    libc::close(file);
     length
 }
 
 // Each list has 4,096 places. A longer file is refused by its length, and so is its front (ReportCut in crates/report).
-fn main() {
-    let mut graph = io::buffer();
-    let mut proposal = io::buffer();
-    let graph_length = read_front(b"graph.bin", &mut graph);
-    let proposal_length = read_front(b"proposal.bin", &mut proposal);
+fn main(rt: HostRuntime) -> io::Result<()> {
+    let mut graph = [0; 4096];
+    let mut proposal = [0; 4096];
+    let graph_length = read_front(&rt, "graph.bin", &mut graph);
+    let proposal_length = read_front(&rt, "proposal.bin", &mut proposal);
     let text = report::report(&graph[..graph_length], &proposal[..proposal_length]);
     let length = text.length;
     let bytes = text.bytes;
-    io::write_all(STDOUT_FILENO, &bytes[..length]);
+    rt.stdout().write_all(&bytes[..length])
 }
