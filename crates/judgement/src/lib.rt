@@ -5,7 +5,7 @@ ghost use Rattle.std.specs.Prelude.{◌≡◌, false, List, ℕ, ◌≤◌, ◌<
 ghost use Rattle.model.specs.Tasks.{Edge};
 ghost use Rattle.model.specs.Graph.{count, edges};
 ghost use Rattle.model.specs.Compute.{zero_cycle};
-ghost use Rattle.model.specs.Proposals.{result};
+ghost use Rattle.model.specs.Proposals as proposals;
 ghost use Rattle.records.specs.Columns.{edges_of, at};
 ghost use Rattle.files.specs.Files.{first_of};
 ghost use Rattle.readings.specs.Working.{graph_in, proposed_in};
@@ -44,7 +44,7 @@ fn cyclic_edge<'a>(
     requires sink_len { (length sink.now ≡ length source.now) × (length source.now ≤ 256) × (length words.now ≡ 16) }
     requires by_index { (v : ℕ) → v < length processor.now → at processor.now v < 16 }
     requires by_index_2 { (j : ℕ) → j < length source.now → (at source.now j < length processor.now) × (at sink.now j < length processor.now) }
-    ensures* { λ r. ⌜ ((rs : List Edge) → ReachesOn (length processor.now) rs processor.now words.now → r ≡ first_cyclic (length processor.now) rs source.now sink.now) ⌝ }
+    ensures { (rs : List Edge) → ReachesOn (length processor.now) rs processor.now words.now → result ≡ first_cyclic (length processor.now) rs source.now sink.now }
 {
     let mut j = 0;
     while j < source.len() {
@@ -75,7 +75,7 @@ fn lost_order<'a>(
     requires tasks_in_bounds { (tasks ≤ length source.now) × (length source.now ≤ 320) × (tasks ≤ 64) }
     requires fit { Fit tasks (edges_of source.now sink.now delay.now) }
     requires fit_2 { Fit tasks (edges_of result_source.now result_sink.now result_delay.now) }
-    ensures* { λ r. ⌜ r ≡ lost_from tasks (edges_of result_source.now result_sink.now result_delay.now) source.now sink.now delay.now ⌝ }
+    ensures { result ≡ lost_from tasks (edges_of result_source.now result_sink.now result_delay.now) source.now sink.now delay.now }
 {
     let mut known: [u16; 4096] = [FAR; 4096];
     take_steps(result_source, result_sink, result_delay, &mut known);
@@ -102,7 +102,7 @@ fn lost_order<'a>(
 // The edges of the result of proposed edges beside a graph.
 fn made_result(graph: GraphReading, proposal: ProposalReading) -> ResultEdges
     requires { Judgeable graph proposal }
-    ensures* { λ r. ⌜ HeldResult r (edges (result (graph_in graph) (proposed_in proposal))) ⌝ }
+    ensures { HeldResult result (edges (proposals.result (graph_in graph) (proposed_in proposal))) }
 {
     let tasks = graph.tasks as usize;
     let end = tasks + graph.edges as usize;
@@ -128,8 +128,8 @@ fn made_result(graph: GraphReading, proposal: ProposalReading) -> ResultEdges
 // 13: the first proposed edge that lies on a cycle of the result.
 fn cycle_refusal(graph: GraphReading, proposal: ProposalReading, made: ResultEdges) -> Refusal
     requires judgeable { Judgeable graph proposal }
-    requires held_result { HeldResult made (edges (result (graph_in graph) (proposed_in proposal))) }
-    ensures* { λ r. ⌜ r ≡ first_of (length (proposed_in proposal)) (cycle_refusal (graph_in graph) (proposed_in proposal)) ⌝ }
+    requires held_result { HeldResult made (edges (proposals.result (graph_in graph) (proposed_in proposal))) }
+    ensures { result ≡ first_of (length (proposed_in proposal)) (cycle_refusal (graph_in graph) (proposed_in proposal)) }
 {
     let tasks = graph.tasks as usize;
     let proposed = proposal.edges as usize;
@@ -153,7 +153,7 @@ fn cycle_refusal(graph: GraphReading, proposal: ProposalReading, made: ResultEdg
 fn lost_refusal(graph: GraphReading, made: ResultEdges) -> Refusal
     requires accepted_reading { AcceptedReading graph }
     requires made { (proposed : List Edge) × Made graph proposed made }
-    ensures* { λ r. ⌜ r ≡ lost_in (graph_in graph) (result_in made) ⌝ }
+    ensures { result ≡ lost_in (graph_in graph) (result_in made) }
 {
     let tasks = graph.tasks as usize;
     let end = tasks + graph.edges as usize;
@@ -180,7 +180,7 @@ fn late_judgement(graph: GraphReading, made: ResultEdges) -> Judgement
     requires accepted_reading { AcceptedReading graph }
     requires made { (proposed : List Edge) × Made graph proposed made }
     requires made_value { zero_cycle (count (graph_in graph)) (result_in made) ≡ false }
-    ensures* { λ r. ⌜ r ≡ late_in (graph_in graph) (result_in made) ⌝ }
+    ensures { result ≡ late_in (graph_in graph) (result_in made) }
 {
     let tasks = graph.tasks as usize;
     let count = made.count as usize;
@@ -210,7 +210,7 @@ fn late_judgement(graph: GraphReading, made: ResultEdges) -> Judgement
 // Judges proposed edges beside an accepted graph: 13, 14, 15, in this sequence.
 pub fn judge(graph: GraphReading, proposal: ProposalReading) -> Judgement
     requires { Judgeable graph proposal }
-    ensures* { λ r. ⌜ r ≡ judgement (graph_in graph) (proposed_in proposal) ⌝ }
+    ensures { result ≡ judgement (graph_in graph) (proposed_in proposal) }
 {
     let made = made_result(graph, proposal);
     let cycle = cycle_refusal(graph, proposal, made);

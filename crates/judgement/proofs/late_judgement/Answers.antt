@@ -1,0 +1,40 @@
+-- `judgement::late_judgement` meets its contract: the fronts of the lists hold the result's edges and the times, so the latency is the result's.
+use mathlib.Core.Bool.{true, false}
+use native.Mathlib.Omega.{arith}
+use borrow.Author.Tests.{lt-ltb, le-ltb}
+use Rattle.files.specs.Refusals.{refuse}
+use Rattle.acceptance.proofs.Readings.{graph-within, times-filed, output-there, few-times}
+use Rattle.judgement.proofs.Judging.{result-sinks, result-delays, result-within, result-ends, late-judged, result-acyclic}
+use Rattle.judgement.proofs.late_judgement.Goals as goal
+
+pub slice_bounds-latency-end : goal.slice_bounds-latency-end
+slice_bounds-latency-end c = (result-within c.requires.accepted_reading c.requires.made.1).0
+
+pub slice_bounds-latency-end-2 : goal.slice_bounds-latency-end-2
+slice_bounds-latency-end-2 c = (result-within c.requires.accepted_reading c.requires.made.1).1
+
+pub slice_bounds-latency-end-3 : goal.slice_bounds-latency-end-3
+slice_bounds-latency-end-3 c = (result-within c.requires.accepted_reading c.requires.made.1).2
+
+pub slice_bounds-latency-end-4 : goal.slice_bounds-latency-end-4
+slice_bounds-latency-end-4 c = (graph-within c.requires.accepted_reading).time
+
+pub latency-latency-requires : goal.latency-latency-requires
+latency-latency-requires c =
+    let graph = c.requires.accepted_reading in
+    let made = c.requires.made.1 in
+    record {
+      sink_len = (result-sinks graph made, result-delays graph made);
+      time_len_bound = (few-times graph, output-there graph);
+      ends = result-ends graph made;
+      delay_value = result-acyclic graph made c.requires.made_value;
+      file_times = times-filed graph;
+    }
+
+pub returns-then-graph-latency : goal.returns-then-graph-latency
+unfolding refuse
+returns-then-graph-latency c = late-judged c.requires.accepted_reading c.requires.made.1 _ c.latency-latency.ensures true (lt-ltb _ _ c.if-graph-latency.true)
+
+pub returns : goal.returns
+unfolding refuse
+returns c = late-judged c.requires.accepted_reading c.requires.made.1 _ c.latency-latency.ensures false (le-ltb c.args.graph.bound c.latency-latency.result (omega (arith, c.if-graph-latency.false)))

@@ -1,0 +1,16 @@
+-- `judgement::lost_order` meets its contract: the orders looked at so far are held. One is held where the entry of its ends is within its delay, and lost where
+-- that entry is above it in a finished row.
+use mathlib.Core.Path.{◌≡◌}
+use mathlib.Core.Bool.{true}
+use Prim.Native.Nat.{ℕ, ◌+◌, ◌-◌, ◌≤◌, ◌<◌}
+use lib.ListN.{length}
+use Rattle.model.specs.Compute.{order_holds}
+use Rattle.records.specs.Columns.{held_edge, edges_of}
+use Rattle.delays.specs.Rows.{Known}
+use Rattle.judgement.proofs.lost_order.Given as goal
+
+abbrev pub invariant-loop-j : goal.invariant-loop-j
+invariant-loop-j l = (l.tasks + l.j ≤ length l.source) × Known l.tasks (edges_of l.result_source l.result_sink l.result_delay) l.done l.known × ((i : ℕ) → i < l.j → order_holds l.tasks (edges_of l.result_source l.result_sink l.result_delay) (held_edge l.source l.sink l.delay (l.tasks + i)) ≡ true)
+
+abbrev pub decreases-loop-j : goal.decreases-loop-j
+decreases-loop-j l = length l.source - (l.tasks + l.j)
