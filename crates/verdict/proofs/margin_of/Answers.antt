@@ -4,29 +4,18 @@ use lib.IntN.{ℤ, ◌-ℤ◌, pos}
 use mir.Syntax.{w32}
 use mir.Val.{SFits, to_z}
 use mir.ValLaws.{to_z_pos, to_z-of_z}
-use borrow.Author.Rules.{rules}
 use Rattle.verdict.specs.Verdict.{margin}
 use Rattle.verdict.proofs.Margins.{half-word, difference-fits}
-use Rattle.verdict.proofs.margin_of.Statement.{statement}
-use Rattle.verdict.proofs.margin_of.Tie as tie
+use Rattle.verdict.proofs.margin_of.Goals as goal
 
-cast-result : tie.Need-overflow-cast-result
-cast-result c = search rules
-
-cast-result-2 : tie.Need-overflow-cast-result-2
-cast-result-2 c = search rules
-
-sub-result : tie.Need-overflow-sub-result
-sub-result c =
+pub overflow_sub-result : goal.overflow_sub-result
+overflow_sub-result c =
     subst (λ (z : ℤ). SFits w32 (z -ℤ to_z w32 c.args.latency)) (sym (to_z_pos w32 c.args.bound (half-word c.requires.0)))
     (subst (λ (z : ℤ). SFits w32 (pos c.args.bound -ℤ z)) (sym (to_z_pos w32 c.args.latency (half-word c.requires.1)))
     (difference-fits c.args.bound c.args.latency c.requires.0 c.requires.1))
 
-returns : tie.Need-returns
+pub returns : goal.returns
 unfolding margin
 returns c =
-    to_z-of_z w32 _ (sub-result c) ∙
+    to_z-of_z w32 _ (overflow_sub-result c) ∙
     (λ i. to_z_pos w32 c.args.bound (half-word c.requires.0) i -ℤ to_z_pos w32 c.args.latency (half-word c.requires.1) i)
-
-pub margin-of-spec : {M : Type 1} → statement M
-margin-of-spec = tie.close (tie.spec cast-result cast-result-2 sub-result returns)
