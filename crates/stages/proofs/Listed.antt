@@ -1,10 +1,10 @@
 -- The lent list after so many records of a stage are stored at its front: one store more is one edge more.
 use mathlib.Core.Path.{◌≡◌, refl, sym, ap, ◌∙◌}
 use mathlib.Core.List.{List, [], ◌∷◌, ◌++◌}
-use Prim.Native.Nat.{ℕ, zero, suc, ◌+◌, ◌-◌, ◌≤◌, ◌<◌}
+use Prim.Native.Nat.{ℕ, zero, suc, ◌+◌, ◌≤◌, ◌<◌}
 use native.Mathlib.Numerals.{add-one}
 use native.Mathlib.Omega.{arith}
-use lib.ListN.{length, get_or, take, drop, set, length-append, length-drop}
+use lib.ListN.{length, get_or, take, drop, set}
 use lib.Seq.{length-take-le, drop-cons, append_snoc, set_at, get_or-take}
 use Rattle.model.specs.Lists.{tabulate}
 use Rattle.model.specs.Tasks.{Edge}
@@ -56,13 +56,6 @@ module _ (source sink delay : List ℕ) where
     pub upto-none : upto 0 ≡ list
     unfolding records_of tabulate
     upto-none = refl
-
-    pub upto-length : (j : ℕ) → j ≤ length list → length (upto j) ≡ length list
-    upto-length j l =
-        let at_front : length (front j) ≡ j = front_length j in
-        let whole : length (upto j) ≡ length (front j) + length (drop j list) = length-append (front j) (drop j list) in
-        let behind : length (drop j list) ≡ length list - j = length-drop j list in
-        omega arith
 
     pub upto-more : (j : ℕ) → j < length list → set (upto j) j (stored j) ≡ upto (j + 1)
     upto-more j l =
