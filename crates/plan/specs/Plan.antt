@@ -1,7 +1,7 @@
 -- Document 01, "What the calls hand over": "Plan: written into a lent list of edge records, as many records as edges are needed at most; the answer gives
 -- its length, its steps and its latency." For every file and list; of a refused call every field that 01 does not name is 0, and the list keeps its
 -- contents.
-use Rattle.std.specs.Prelude.{◌≡◌, List, [], ◌∷◌, ℕ, length}
+use Rattle.std.specs.Prelude.{List, [], ◌∷◌, ℕ, length}
 use Rattle.model.specs.Tasks.{Edge}
 use Rattle.model.specs.Graph.{Graph}
 use Rattle.model.specs.Plan.{plan_of, plan_latency}
