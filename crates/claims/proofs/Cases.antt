@@ -321,6 +321,7 @@ data Each : List Case → Type 0 where
   ◌then◌ : {c : Case} {cs : List Case} → Holds c → Each cs → Each (c ∷ cs)
 
 each_holds : (cs : List Case) → Each cs → (c : Case) → Memᴰ c cs → Holds c
+each_holds [] _ c x3 = elim x3 [ ]
 each_holds (x ∷ cs) (holds then rest) c (here is) = subst Holds (sym is) holds
 each_holds (x ∷ cs) (holds then rest) c (there m) = each_holds cs rest c m
 
