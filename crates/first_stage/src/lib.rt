@@ -56,7 +56,8 @@ fn keep_needed<'a>(
 }
 
 // The feedforward edges of an accepted graph that are not redundant, in the file's sequence. The graph comes as its edges, those of processors first. The
-// least delays between its tasks are left at the front of the table, row by row.
+// least delays between its tasks are left at the front of the table, row by row. Not put inline: its lists are to leave the stack with it.
+#[inline(never)]
 pub fn first_stage<'a, 'b>(
     source: &'a [u8],
     sink: &'a [u8],

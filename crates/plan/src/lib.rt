@@ -46,7 +46,9 @@ struct Decided {
     stage: StageEdges,
 }
 
-// The plan of an accepted graph from its first stage on, by its table of least delays.
+// The plan of an accepted graph from its first stage on, by its table of least delays. Not put inline: its lists and those of the first
+// stage are not to be on the stack at once (RESYNC_STACK_BYTES of include/resync.h).
+#[inline(never)]
 fn plan_from(graph: GraphReading, first: StageEdges, table: &mut [u16]) -> GraphPlan
     requires accepted_reading { AcceptedReading graph }
     requires held_front { HeldFront 256 first.count first.source first.sink first.delay (first_stage (graph_in graph)) }
