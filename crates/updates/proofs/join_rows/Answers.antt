@@ -48,7 +48,15 @@ pub lower_row-requires : goal.lower_row-requires
 unfolding at
 lower_row-requires c =
     let joined = c.loop-x.invariant.1.joined in
-    let copied = c.copy_row.ensures in record { way_bound = (joined.small (c.loop-x.x * 64 + c.args.near), copied.size, λ y l. copied-small copied c.requires.4 y); start_in_bounds = (row_inside (goal.at.lower_row-requires c).In-loop-x, omega (arith, few (goal.at.lower_row-requires c).In-loop-x), λ y l. joined.small (c.loop-x.x * 64 + y)) }
+    let copied = c.copy_row.ensures in
+    record {
+      way_bound = (omega (arith, joined.small (c.loop-x.x * 64 + c.args.near)), copied.size, λ y l. copied-small copied c.requires.4 y);
+      start_in_bounds = (
+        row_inside (goal.at.lower_row-requires c).In-loop-x,
+        omega (arith, few (goal.at.lower_row-requires c).In-loop-x),
+        λ y l. joined.small (c.loop-x.x * 64 + y),
+      );
+    }
 
 pub overflow_add-x : goal.overflow_add-x
 overflow_add-x c = omega (arith, few (goal.at.overflow_add-x c).In-loop-x)
