@@ -1,5 +1,5 @@
--- What the exported call for the plan promises, in the definitions that the demands speak of: its contract is just this, so a promise dropped there would not
--- be proved here. (The other exported calls are called in src/lib.rt.)
+-- What the call of crates/resync_c for the plan promises, in the definitions that the demands speak of: its contract is just this, so a promise dropped there
+-- would not be proved here. (The other calls are made in src/lib.rt.)
 use mathlib.Core.Path.{◌≡◌}
 use lib.ListN.{length}
 use seplogic.Ra.Ura.{Ura}

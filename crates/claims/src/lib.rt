@@ -1,6 +1,6 @@
 // The demands and the change requests as theorems over the contracts of the code: specs/ has the statements, proofs/ the proofs. The functions here promise
-// once more what the exported calls promise, in the definitions that the demands speak of: a promise that an exported call did not give could not be proved.
-// That of resync_plan, which lends records, stands in proofs/Promises.antt.
+// once more what the calls of crates/resync_c promise, in the definitions that the demands speak of: a promise that such a call did not give could not be
+// proved. That of resync_plan, which lends records, stands in proofs/Promises.antt. crates/resync_c_c exports the calls, with the same clauses.
 #![tactic(auto)]
 
 ghost use Rattle.std.specs.Prelude.{◌≡◌, length};
