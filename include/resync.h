@@ -1,5 +1,4 @@
-/* The calls of the resynchronization checker, for C and C++ on x86-64 (System V): link target/staticlib/libresync_c.a. It is compiled for
- * processors of the level x86-64-v2 and above, and does not look whether it runs on one.
+/* The calls of the resynchronization checker, for C and C++ on x86-64 (System V): link target/staticlib/libresync_c.a.
  *
  * A graph file is a desk's schedule: tasks on processors, synchronization edges between them, latency input and output, and the
  * bound. A proposal file lists other synchronization edges. Both are given as their bytes, whatever they hold: a file that is no

@@ -67,8 +67,8 @@
 //!
 //! # Linking
 //!
-//! The calls come from a static library for x86-64 (level v2) that is proved and built with the Rattle kit. Run `./build` at the repository's
-//! root once: it puts `target/staticlib/libresync_c.a` in place, where this crate's build script finds it and links it. Nothing else is needed,
+//! The calls come from a static library for x86-64 that is proved and built with the Rattle kit. Run `./build` at the repository's root
+//! once: it puts `target/staticlib/libresync_c.a` in place, where this crate's build script finds it and links it. Nothing else is needed,
 //! and a program that depends on this crate has nothing to set. The proofs speak of the library; this crate only gives its answers Rust's
 //! types, and its one file with `unsafe`, [`raw`], declares the library's functions.
 
