@@ -1,26 +1,24 @@
-// The entry of every call: a graph file judged up to 12 and handed over by value, refusal 16 of a list too short, and the outcome that a call gives.
+// The entry of every call: a graph file judged up to 12 and handed over by value, refusal 16 of a list too short, and the outcome that a call tells.
 #![tactic(auto)]
 
-ghost use Rattle.std.specs.Prelude.{◌≡◌, not, ◌&&◌, [], ◌∷◌, ◌≤◌, ◌<◌, eqb, length};
+ghost use Rattle.std.specs.Prelude.{◌≡◌, not, ◌&&◌, ◌≤◌, ◌<◌, eqb, length};
 ghost use Rattle.model.specs.Compute.{latency};
 ghost use Rattle.records.specs.Columns.{edges_of, at};
-ghost use Rattle.files.specs.Refusals.{first, if_passed};
+ghost use Rattle.files.specs.Refusals.{refusal_of, refusal_in, Gives};
 ghost use Rattle.reach.specs.Reach.{bit};
 ghost use Rattle.starts.specs.Starts.{FileTimes};
 ghost use Rattle.delays.specs.Delays.{Fit};
-ghost use Rattle.acceptance.specs.Acceptance.{schedule_checks, acceptance};
+ghost use Rattle.acceptance.specs.Acceptance.{schedule_checks, Accepts};
 ghost use Rattle.acceptance.specs.Outcomes.{outcome, room_refusal};
 
-use files::{PASSED, Refusal};
+use files::{Fault, Refusal};
 use readings::{GraphReading, read_graph};
 use turn::first_turn;
 use waits::no_starts;
 
-// A graph file after all checks up to 12: the refusal, the latency of an accepted graph (0 if refused), and the file as read. The
-// reading's own refusal is of 1 to 8 only, so a graph that 9 to 12 refuse is still in it.
+// An accepted graph: its latency, and the file as read.
 #[derive(Clone, Copy)]
 pub struct Acceptance {
-    pub refusal: Refusal,
     pub latency: u32,
     pub reading: GraphReading,
 }
@@ -36,36 +34,39 @@ pub struct Outcome {
     pub margin: i32,
 }
 
-// What checks 9 to 12 find: the refusal, and the latency if there is none.
-#[derive(Clone, Copy)]
-struct Checked {
-    refusal: Refusal,
-    latency: u32,
+// A fault as a call tells it: number and place. What else the verdict tells of a late proposal it adds itself.
+impl From<Fault> for Outcome {
+    ghost from_gives = { λ fault told. told ≡ outcome (refusal_of fault) };
+
+    fn from(fault: Fault) -> Outcome {
+        let refusal = Refusal::from(fault);
+        Outcome {
+            number: refusal.number,
+            place: refusal.place,
+            latency: 0,
+            margin: 0,
+        }
+    }
 }
 
-const ZERO_CYCLE: Refusal = Refusal {
-    number: 9,
-    place: 0,
-};
+// What a call tells that hands over nothing else.
+impl From<Result<(), Fault>> for Outcome {
+    ghost from_gives = { λ answer told. told ≡ outcome (refusal_in answer) };
 
-const INPUT_WAITS: Refusal = Refusal {
-    number: 10,
-    place: 0,
-};
+    fn from(answer: Result<(), Fault>) -> Outcome {
+        match answer {
+            Ok(()) => SUCCESS,
+            Err(fault) => Outcome::from(fault),
+        }
+    }
+}
 
-const NOT_JOINED: Refusal = Refusal {
-    number: 11,
+// Nothing is refused.
+pub const SUCCESS: Outcome = Outcome {
+    number: 0,
     place: 0,
-};
-
-const BOUND_BELOW: Refusal = Refusal {
-    number: 12,
-    place: 0,
-};
-
-const SHORT_LIST: Refusal = Refusal {
-    number: 16,
-    place: 0,
+    latency: 0,
+    margin: 0,
 };
 
 // Whether input and output differ, and the output is among the tasks reached.
@@ -79,7 +80,7 @@ fn is_reached(reached: u64, input: usize, output: usize) -> bool
     reach::has_bit(reached, output)
 }
 
-// Checks 9 to 12: the first turn tells all that they ask for.
+// Checks 9 to 12, and the latency where they pass: the first turn tells all that they ask for.
 fn check_schedule<'a>(
     source: &'a [u8],
     sink: &'a [u8],
@@ -88,106 +89,58 @@ fn check_schedule<'a>(
     input: usize,
     output: usize,
     bound: u32,
-) -> Checked
+) -> Result<u32, Fault>
     requires sink_len { (length sink.now ≡ length source.now) × (length delay.now ≡ length source.now) }
     requires time_len_bound { (length time.now ≤ 64) × (input < length time.now) × (output < length time.now) }
     requires fit { Fit (length time.now) (edges_of source.now sink.now delay.now) }
     requires file_times { FileTimes time.now }
-    ensures refusal { result.refusal ≡ schedule_checks (length time.now) (edges_of source.now sink.now delay.now) (at time.now) input output bound }
-    ensures latency { result.latency ≡ if_passed result.refusal.number (latency (length time.now) (edges_of source.now sink.now delay.now) (at time.now) output) 0 }
+    ensures { Gives result (schedule_checks (length time.now) (edges_of source.now sink.now delay.now) (at time.now) input output bound) (latency (length time.now) (edges_of source.now sink.now delay.now) (at time.now) output) }
 {
     let tasks = time.len();
     let starts = no_starts();
     let mut start = starts.start;
     let turn = first_turn(source, sink, delay, time, input, &mut start[0..tasks]);
     if turn.cyclic {
-        return Checked {
-            refusal: ZERO_CYCLE,
-            latency: 0,
-        };
+        return Err(Fault::ZeroCycle);
     }
     if !turn.free {
-        return Checked {
-            refusal: INPUT_WAITS,
-            latency: 0,
-        };
+        return Err(Fault::InputWaits);
     }
     if !is_reached(turn.reached, input, output) {
-        return Checked {
-            refusal: NOT_JOINED,
-            latency: 0,
-        };
+        return Err(Fault::NotJoined);
     }
     let latency = start[output] + time[output] as u32;
     if bound < latency {
-        return Checked {
-            refusal: BOUND_BELOW,
-            latency: 0,
-        };
+        return Err(Fault::BoundBelow);
     }
-    Checked {
-        refusal: PASSED,
-        latency,
-    }
+    Ok(latency)
 }
 
 // Reads a graph file and judges it up to 12, for every list of bytes.
-pub fn accept(graph: &[u8]) -> Acceptance
-    ensures { result ≡ acceptance graph.now }
+pub fn accept(graph: &[u8]) -> Result<Acceptance, Fault>
+    ensures { Accepts graph.now result }
 {
-    let reading = read_graph(graph);
-    let unread = reading.refusal;
-    if unread.number != 0 {
-        return Acceptance {
-            refusal: unread,
-            latency: 0,
-            reading,
-        };
-    }
+    let reading = read_graph(graph)?;
     let tasks = reading.tasks as usize;
     let end = tasks + reading.edges as usize;
-    let time = reading.time;
-    let source = reading.source;
-    let sink = reading.sink;
-    let delay = reading.delay;
-    let checked = check_schedule(
-        &source[0..end],
-        &sink[0..end],
-        &delay[0..end],
-        &time[0..tasks],
+    let latency = check_schedule(
+        &reading.source[0..end],
+        &reading.sink[0..end],
+        &reading.delay[0..end],
+        &reading.time[0..tasks],
         reading.input as usize,
         reading.output as usize,
         reading.bound,
-    );
-    let refusal = checked.refusal;
-    Acceptance {
-        refusal,
-        latency: checked.latency,
-        reading,
-    }
+    )?;
+    Ok(Acceptance { latency, reading })
 }
 
-// A refusal as a call gives it: no latency and no margin.
-pub fn told(refusal: Refusal) -> Outcome
-    ensures { result ≡ outcome refusal }
+// 16, where a list of `room` elements is lent and `needed` are to be written.
+pub fn check_room(needed: usize, room: usize) -> Result<(), Fault>
+    ensures { refusal_in result ≡ room_refusal needed room }
 {
-    Outcome {
-        number: refusal.number,
-        place: refusal.place,
-        latency: 0,
-        margin: 0,
-    }
-}
-
-// 16, after the checks before it.
-pub fn with_room(earlier: Refusal, needed: usize, room: usize) -> Refusal
-    ensures { result ≡ first (earlier ∷ room_refusal needed room ∷ []) }
-{
-    if earlier.number != 0 {
-        return earlier;
-    }
     if room < needed {
-        return SHORT_LIST;
+        return Err(Fault::ShortList);
     }
-    PASSED
+    Ok(())
 }

@@ -1,4 +1,4 @@
--- The first refusal of a list of checks: a check that passes is left out, one that refuses is the answer. Over the places below n it is the one at
+-- The first refusal of a list of checks: a check that passes is left out, one that refused is the answer. Over the places below n it is the one at
 -- the place where every earlier one passes; and where it goes by a test that decides something, that place is the first which has it.
 use mathlib.Core.Path.{◌≡◌, refl, sym, ap, ◌∙◌, subst}
 use mathlib.Core.Logic.{◌⊎◌, inl, inr, ◌≢◌}
@@ -12,8 +12,13 @@ use Rattle.model.specs.Lists.{tabulate}
 use Rattle.model.specs.Theorems.{Decides}
 use Rattle.model.proofs.Basics.{is_true, is_false, order, below_suc, FirstFrom, found, missing, first-from}
 use Rattle.model.proofs.Tests.{decided, eqb-decides}
+use Rattle.std.proofs.Common.{Result, Ok, Err}
+use Rattle.std.specs.Result.{IsErr, IsErrAnd}
+use Rattle.std.proofs.lemmas.Result.{err_from_is_err_and, IfOk-from_err}
+use Rattle.files.specs.declared.Fault.{Fault}
+use Rattle.files.specs.declared.Fault.TheVariants.{FewerBytes, OtherVersion, CountOutside, MoreBytes, FillingBit, TimeOfZero, EndOutside, HeaderOutside, WithinProcessor, RepeatedEdge, ZeroCycle, InputWaits, NotJoined, BoundBelow, OnCycle, LostOrder, Late, ShortList, TurnsOutside}
 use Rattle.files.specs.declared.Refusal.{Refusal}
-use Rattle.files.specs.Refusals.{not_refused, refuse, choose, first, if_passed}
+use Rattle.files.specs.Refusals.{not_refused, refusal_of, refusal_in, Gives, refuse, choose, first, if_passed}
 use Rattle.files.specs.Files.{first_of}
 
 pub choose-later : (n : ℕ) (r later : Refusal) → n ≡ 0 → choose n r later ≡ later
@@ -169,6 +174,48 @@ ends_with {r} {q} rs is some = stops q rs (λ z. some (number_same is ∙ z)) �
 
 pub goes_on : {r q : Refusal} (rs : List Refusal) → r ≡ q → r.number ≡ 0 → first (q ∷ rs) ≡ first rs
 goes_on {r} {q} rs is none = passes q rs (number_same (sym is) ∙ none)
+
+-- Every fault has a number.
+pub fault-number : (fault : Fault) → (refusal_of fault).number ≢ 0
+fault-number FewerBytes = λ z. omega arith
+fault-number OtherVersion = λ z. omega arith
+fault-number CountOutside = λ z. omega arith
+fault-number MoreBytes = λ z. omega arith
+fault-number FillingBit = λ z. omega arith
+fault-number (TimeOfZero task) = λ z. omega arith
+fault-number (EndOutside edge) = λ z. omega arith
+fault-number HeaderOutside = λ z. omega arith
+fault-number (WithinProcessor edge) = λ z. omega arith
+fault-number (RepeatedEdge edge) = λ z. omega arith
+fault-number ZeroCycle = λ z. omega arith
+fault-number InputWaits = λ z. omega arith
+fault-number NotJoined = λ z. omega arith
+fault-number BoundBelow = λ z. omega arith
+fault-number (OnCycle edge) = λ z. omega arith
+fault-number (LostOrder edge) = λ z. omega arith
+fault-number (Late latency) = λ z. omega arith
+fault-number ShortList = λ z. omega arith
+fault-number TurnsOutside = λ z. omega arith
+
+-- what a `?` hands back of a fault
+pub handed_back : {A : Type 0} (r : Result A Fault) (fault : Fault) → IsErrAnd r (λ f. f ≡ fault) → refusal_in r ≡ refusal_of fault
+handed_back r fault is = let p = err_from_is_err_and r is in ap refusal_in p.1 ∙ ap refusal_of p.2
+
+-- what a `?` hands back gives the fault's refusal, and no value
+pub gives-fault :
+    {A : Type 0} (r : Result A Fault) (fault : Fault) {q : Refusal} {value : A} → IsErr r → IsErrAnd r (λ f. f ≡ fault) → refusal_of fault ≡ q → Gives r q value
+gives-fault r fault failed is same = record { refusal = handed_back r fault is ∙ same; value = IfOk-from_err r _ failed }
+
+-- where nothing is refused, the value is given
+pub passed-gives : {A : Type 0} (r : Result A Fault) {q : Refusal} {value : A} → Gives r q value → q.number ≡ 0 → r ≡ Ok value
+passed-gives (Ok a) given none = ap Ok given.value
+passed-gives (Err fault) given none = absurd (fault-number fault (number_same given.refusal ∙ none))
+
+-- a check with a fault ends a chain, and its fault is the chain's
+pub fault_ends :
+    {A : Type 0} (r : Result A Fault) (fault : Fault) {q : Refusal} (rs : List Refusal) → IsErrAnd r (λ f. f ≡ fault) → refusal_of fault ≡ q
+    → refusal_in r ≡ first (q ∷ rs)
+fault_ends r fault rs is same = handed_back r fault is ∙ sym (ends_with rs same (fault-number fault))
 
 -- a check that does not refuse gives place 0 too, so the last one of a chain is its answer
 pub one-check : (b : Bool) (n p : ℕ) → n ≢ 0 → first (refuse b n p ∷ []) ≡ refuse b n p

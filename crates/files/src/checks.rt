@@ -3,76 +3,59 @@
 ghost use Rattle.std.specs.Prelude.{◌≡◌, List, ◌+◌, ◌≤◌, ◌<◌, length};
 ghost use Rattle.model.specs.Tasks.{Task, Edge};
 ghost use Rattle.model.specs.Graph.{Graph};
+ghost use Rattle.files.specs.Refusals.{refusal_in};
 ghost use Rattle.files.specs.Files.{first_of, time_refusal, ends_refusal, edge_refusal, repeat_refusal, repeats_earlier, graph_records_refusal, proposed_edges_refusal};
 ghost use Rattle.files.specs.Repeated.{edge_place, SeenBefore};
 ghost use Rattle.records.specs.Columns.{ProcessorsOf, TimesOf, SourcesOf, SinksOf, DelaysOf};
 
-use crate::{PASSED, Refusal};
+use crate::Fault;
 
 // 5: the first task whose time is 0.
-fn times_refusal(time: &[u16]) -> Refusal
+fn check_times(time: &[u16]) -> Result<(), Fault>
     requires { length time.now ≤ 64 }
-    ensures { (g : Graph) → TimesOf g.tasks time.now → result ≡ first_of (length g.tasks) (time_refusal g) }
+    ensures { (g : Graph) → TimesOf g.tasks time.now → refusal_in result ≡ first_of (length g.tasks) (time_refusal g) }
 {
-    let mut v = 0;
-    while v < time.len() {
-        if time[v] == 0 {
-            return Refusal {
-                number: 5,
-                place: v as u32,
-            };
+    for (v, &estimate) in time.iter().enumerate() {
+        if estimate == 0 {
+            return Err(Fault::TimeOfZero(v as u32));
         }
-        v += 1;
     }
-    PASSED
+    Ok(())
 }
 
 // 6: the first edge with an end that is not below the number of tasks.
-fn ends_refusal<'a>(tasks: usize, source: &'a [u8], sink: &'a [u8]) -> Refusal
+fn check_ends<'a>(tasks: usize, source: &'a [u8], sink: &'a [u8]) -> Result<(), Fault>
     requires source_len_bound { length source.now ≤ 256 }
     requires sink_len { length sink.now ≡ length source.now }
-    ensures { (es : List Edge) → SourcesOf es source.now → SinksOf es sink.now → result ≡ first_of (length es) (ends_refusal tasks es) }
+    ensures { (es : List Edge) → SourcesOf es source.now → SinksOf es sink.now → refusal_in result ≡ first_of (length es) (ends_refusal tasks es) }
 {
-    let mut j = 0;
-    while j < source.len() {
+    for j in 0..source.len() {
         let from = source[j] as usize;
         let to = sink[j] as usize;
         if from >= tasks || to >= tasks {
-            return Refusal {
-                number: 6,
-                place: j as u32 + 1,
-            };
+            return Err(Fault::EndOutside(j as u32 + 1));
         }
-        j += 1;
     }
-    PASSED
+    Ok(())
 }
 
 // 6 then 7: the first edge with an end that is not below the number of tasks, or with both ends on one processor.
-fn edges_refusal<'a>(processor: &'a [u8], source: &'a [u8], sink: &'a [u8]) -> Refusal
+fn check_edges<'a>(processor: &'a [u8], source: &'a [u8], sink: &'a [u8]) -> Result<(), Fault>
     requires source_len_bound { length source.now ≤ 256 }
     requires sink_len { length sink.now ≡ length source.now }
-    ensures { (ts : List Task) (es : List Edge) → ProcessorsOf ts processor.now → SourcesOf es source.now → SinksOf es sink.now → result ≡ first_of (length es) (edge_refusal ts es) }
+    ensures { (ts : List Task) (es : List Edge) → ProcessorsOf ts processor.now → SourcesOf es source.now → SinksOf es sink.now → refusal_in result ≡ first_of (length es) (edge_refusal ts es) }
 {
-    let mut j = 0;
-    while j < source.len() {
+    for j in 0..source.len() {
         let from = source[j] as usize;
         let to = sink[j] as usize;
         if from >= processor.len() || to >= processor.len() {
-            return Refusal {
-                number: 6,
-                place: j as u32 + 1,
-            };
+            return Err(Fault::EndOutside(j as u32 + 1));
         }
         if processor[from] == processor[to] {
-            return Refusal {
-                number: 7,
-                place: j as u32 + 1,
-            };
+            return Err(Fault::WithinProcessor(j as u32 + 1));
         }
-        j += 1;
     }
-    PASSED
+    Ok(())
 }
 
 // Whether edge j has the source, sink and delay of an earlier one.
@@ -86,10 +69,8 @@ fn repeats_earlier<'a>(source: &'a [u8], sink: &'a [u8], delay: &'a [u8], j: usi
     let to = sink[j];
     let late = delay[j];
     let mut found = false;
-    let mut i = 0;
-    while i < j {
-        found = found | ((source[i] == from) & ((sink[i] == to) & (delay[i] == late)));
-        i += 1;
+    for i in 0..j {
+        found |= (source[i] == from) & ((sink[i] == to) & (delay[i] == late));
     }
     found
 }
@@ -126,66 +107,52 @@ fn repeats_seen<'a>(
 }
 
 // 8: the first edge that repeats an earlier one.
-fn repeats_refusal<'a>(source: &'a [u8], sink: &'a [u8], delay: &'a [u8]) -> Refusal
+fn check_repeats<'a>(source: &'a [u8], sink: &'a [u8], delay: &'a [u8]) -> Result<(), Fault>
     requires source_len_bound { length source.now ≤ 256 }
     requires sink_len { length sink.now ≡ length source.now }
     requires delay_len { length delay.now ≡ length source.now }
-    ensures { (es : List Edge) → SourcesOf es source.now → SinksOf es sink.now → DelaysOf es delay.now → result ≡ first_of (length es) (repeat_refusal es) }
+    ensures { (es : List Edge) → SourcesOf es source.now → SinksOf es sink.now → DelaysOf es delay.now → refusal_in result ≡ first_of (length es) (repeat_refusal es) }
 {
     let mut seen: [u8; 4096] = [0; 4096];
-    let mut j = 0;
-    while j < source.len() {
+    for j in 0..source.len() {
         if repeats_seen(source, sink, delay, j, &mut seen) {
-            return Refusal {
-                number: 8,
-                place: j as u32 + 1,
-            };
+            return Err(Fault::RepeatedEdge(j as u32 + 1));
         }
-        j += 1;
     }
-    PASSED
+    Ok(())
 }
 
 // "tasks 5; each edge 6 then 7; then 8" of a graph.
-pub fn records_refusal<'a>(
+pub fn check_records<'a>(
     processor: &'a [u8],
     time: &'a [u16],
     source: &'a [u8],
     sink: &'a [u8],
     delay: &'a [u8],
-) -> Refusal
+) -> Result<(), Fault>
     requires time_len_bound { length time.now ≤ 64 }
     requires source_len_bound { length source.now ≤ 256 }
     requires sink_len { length sink.now ≡ length source.now }
     requires delay_len { length delay.now ≡ length source.now }
-    ensures { (g : Graph) → ProcessorsOf g.tasks processor.now → TimesOf g.tasks time.now → SourcesOf g.syncs source.now → SinksOf g.syncs sink.now → DelaysOf g.syncs delay.now → result ≡ graph_records_refusal g }
+    ensures { (g : Graph) → ProcessorsOf g.tasks processor.now → TimesOf g.tasks time.now → SourcesOf g.syncs source.now → SinksOf g.syncs sink.now → DelaysOf g.syncs delay.now → refusal_in result ≡ graph_records_refusal g }
 {
-    let times = times_refusal(time);
-    if times.number != 0 {
-        return times;
-    }
-    let edges = edges_refusal(processor, source, sink);
-    if edges.number != 0 {
-        return edges;
-    }
-    repeats_refusal(source, sink, delay)
+    check_times(time)?;
+    check_edges(processor, source, sink)?;
+    check_repeats(source, sink, delay)
 }
 
 // "each edge 6; then 8" of proposed edges.
-pub fn proposed_refusal<'a>(
+pub fn check_proposed<'a>(
     tasks: usize,
     source: &'a [u8],
     sink: &'a [u8],
     delay: &'a [u8],
-) -> Refusal
+) -> Result<(), Fault>
     requires source_len_bound { length source.now ≤ 256 }
     requires sink_len { length sink.now ≡ length source.now }
     requires delay_len { length delay.now ≡ length source.now }
-    ensures { (es : List Edge) → SourcesOf es source.now → SinksOf es sink.now → DelaysOf es delay.now → result ≡ proposed_edges_refusal tasks es }
+    ensures { (es : List Edge) → SourcesOf es source.now → SinksOf es sink.now → DelaysOf es delay.now → refusal_in result ≡ proposed_edges_refusal tasks es }
 {
-    let ends = ends_refusal(tasks, source, sink);
-    if ends.number != 0 {
-        return ends;
-    }
-    repeats_refusal(source, sink, delay)
+    check_ends(tasks, source, sink)?;
+    check_repeats(source, sink, delay)
 }

@@ -1,5 +1,5 @@
 -- The front of the working lists holds the numbers of the tasks and edges, since the lists are made of them place by place, so the graph can be read
--- back from them; and a reading carries its refusal, by the two cases of its number.
+-- back from them; and what reading gives carries the refusal, or what was read.
 use mathlib.Core.Path.{◌≡◌, refl, sym, ap, ◌∙◌, subst}
 use mathlib.Core.Logic.{◌⊎◌, inl, inr, ◌≢◌}
 use mathlib.Core.List.{List}
@@ -14,12 +14,10 @@ use Rattle.records.specs.Columns.{at, held_edge}
 use Rattle.records.proofs.Fill.{length-tabulate, get_d_tabulate}
 use Rattle.records.proofs.Ordered.{edges-count, sync-place}
 use Rattle.records.proofs.Parts.{column-of-take}
-use Rattle.files.specs.Files.{graph_of, proposal_of, edge_in, graph_refusal, proposal_refusal}
-use Rattle.files.proofs.First.{zero_or_not, none-refused, if-passed, if-refused}
-use Rattle.readings.specs.declared.GraphReading.{GraphReading}
-use Rattle.readings.specs.declared.ProposalReading.{ProposalReading}
+use Rattle.files.specs.Files.{edge_in}
+use Rattle.files.proofs.First.{passed-gives}
 use Rattle.readings.specs.Theorems.{GraphRefusalGiven, GraphGiven, ProposalRefusalGiven, ProposalGiven, WorkingHolds, WorkingEdgesHold, GraphInWorking, ProposedInWorking}
-use Rattle.readings.specs.Working.{working_graph, refused_graph, graph_answer, graph_reading, working_proposal, refused_proposal, proposal_answer, proposal_reading, graph_in, proposed_in}
+use Rattle.readings.specs.Working.{working_graph, working_proposal, graph_in, proposed_in}
 
 pub working-holds : WorkingHolds
 unfolding working_graph processor_of time_of edge_in
@@ -87,26 +85,14 @@ proposed-in-working es few =
       delay = get_d_tabulate 256 (λ k. (edge_in es k).delay) 0 j (omega arith) i;
     })
 
-pub graph-given : GraphGiven
-unfolding graph_reading graph_answer
-graph-given s none = if-passed (graph_refusal s).number (working_graph (graph_of s)) (refused_graph (graph_refusal s)) none
-
 pub graph-refusal-given : GraphRefusalGiven
-unfolding graph_reading graph_answer graph_refusal working_graph refused_graph
-graph-refusal-given s = go (zero_or_not (graph_refusal s).number)
-  where
-    go : ((graph_refusal s).number ≡ 0) ⊎ ((graph_refusal s).number ≢ 0) → (graph_reading s).refusal ≡ graph_refusal s
-    go (inl z) = ap (λ (r : GraphReading). r.refusal) (graph-given s z) ∙ sym (none-refused _ z)
-    go (inr n) = ap (λ (r : GraphReading). r.refusal) (if-refused (graph_refusal s).number (working_graph (graph_of s)) (refused_graph (graph_refusal s)) n)
+graph-refusal-given s r read = read.refusal
 
-pub proposal-given : ProposalGiven
-unfolding proposal_reading proposal_answer
-proposal-given n s none = if-passed (proposal_refusal n s).number (working_proposal (proposal_of s)) (refused_proposal (proposal_refusal n s)) none
+pub graph-given : GraphGiven
+graph-given s r read none = passed-gives r read none
 
 pub proposal-refusal-given : ProposalRefusalGiven
-unfolding proposal_reading proposal_answer proposal_refusal working_proposal refused_proposal
-proposal-refusal-given n s = go (zero_or_not (proposal_refusal n s).number)
-  where
-    go : ((proposal_refusal n s).number ≡ 0) ⊎ ((proposal_refusal n s).number ≢ 0) → (proposal_reading n s).refusal ≡ proposal_refusal n s
-    go (inl z) = ap (λ (r : ProposalReading). r.refusal) (proposal-given n s z) ∙ sym (none-refused _ z)
-    go (inr k) = ap (λ (r : ProposalReading). r.refusal) (if-refused (proposal_refusal n s).number (working_proposal (proposal_of s)) (refused_proposal (proposal_refusal n s)) k)
+proposal-refusal-given n s r read = read.refusal
+
+pub proposal-given : ProposalGiven
+proposal-given n s r read none = passed-gives r read none

@@ -1,7 +1,6 @@
 -- The proofs that other crates may cite.
 pub mod Whole
 pub mod Passed
-pub mod Answers
 pub mod Columns
 pub mod Accepted
 pub mod Held

@@ -1,10 +1,14 @@
 -- The theorems about readings, as statements. proofs/Accepted.antt proves the first two, proofs/Held.antt the others.
-use Rattle.std.specs.Prelude.{◌≡◌, List, ℕ, ◌+◌, ◌≤◌, length, take}
+use Rattle.std.specs.Prelude.{◌≡◌, List, ℕ, ◌+◌, ◌≤◌, length, take, Result, Ok}
 use Rattle.model.specs.Tasks.{Edge}
 use Rattle.model.specs.Graph.{Graph, WellFormed, WellFormedEdges, count, edges}
 use Rattle.records.specs.Columns.{ProcessorsOf, TimesOf, SourcesOf, SinksOf, DelaysOf}
 use Rattle.files.specs.Files.{graph_of, proposal_of, graph_refusal, proposal_refusal}
-use Rattle.readings.specs.Working.{working_graph, working_proposal, graph_reading, proposal_reading, graph_in, proposed_in}
+use Rattle.files.specs.declared.Fault.{Fault}
+use Rattle.files.specs.Refusals.{refusal_in}
+use Rattle.readings.specs.declared.GraphReading.{GraphReading}
+use Rattle.readings.specs.declared.ProposalReading.{ProposalReading}
+use Rattle.readings.specs.Working.{working_graph, working_proposal, GraphRead, ProposalRead, graph_in, proposed_in}
 
 -- A graph file of which nothing is refused holds a graph of 2 to 64 tasks on processors 0 to 15, times from 1 to 65,535, at most 256 edges between
 -- tasks of different processors, of delay 0 to 255, no two equal, and its latency input and output are tasks.
@@ -15,18 +19,18 @@ GraphFormed = (s : List ℕ) → (graph_refusal s).number ≡ 0 → WellFormed (
 abbrev pub ProposalFormed : Type 0
 ProposalFormed = (n : ℕ) (s : List ℕ) → (proposal_refusal n s).number ≡ 0 → WellFormedEdges n (proposal_of s)
 
--- What is handed over carries the refusal, and the graph or the edges if there is none.
+-- What reading gives carries the refusal, and the graph or the edges if there is none.
 abbrev pub GraphRefusalGiven : Type 0
-GraphRefusalGiven = (s : List ℕ) → (graph_reading s).refusal ≡ graph_refusal s
+GraphRefusalGiven = (s : List ℕ) (r : Result GraphReading Fault) → GraphRead s r → refusal_in r ≡ graph_refusal s
 
 abbrev pub GraphGiven : Type 0
-GraphGiven = (s : List ℕ) → (graph_refusal s).number ≡ 0 → graph_reading s ≡ working_graph (graph_of s)
+GraphGiven = (s : List ℕ) (r : Result GraphReading Fault) → GraphRead s r → (graph_refusal s).number ≡ 0 → r ≡ Ok (working_graph (graph_of s))
 
 abbrev pub ProposalRefusalGiven : Type 0
-ProposalRefusalGiven = (n : ℕ) (s : List ℕ) → (proposal_reading n s).refusal ≡ proposal_refusal n s
+ProposalRefusalGiven = (n : ℕ) (s : List ℕ) (r : Result ProposalReading Fault) → ProposalRead n s r → refusal_in r ≡ proposal_refusal n s
 
 abbrev pub ProposalGiven : Type 0
-ProposalGiven = (n : ℕ) (s : List ℕ) → (proposal_refusal n s).number ≡ 0 → proposal_reading n s ≡ working_proposal (proposal_of s)
+ProposalGiven = (n : ℕ) (s : List ℕ) (r : Result ProposalReading Fault) → ProposalRead n s r → (proposal_refusal n s).number ≡ 0 → r ≡ Ok (working_proposal (proposal_of s))
 
 -- the front of the working lists holds the tasks, and the edges that order the graph
 pub record Held (g : Graph) : Type 0 where

@@ -1,33 +1,15 @@
 // Reading a graph file.
 ghost use Rattle.std.specs.Prelude.{◌≡◌, ◌≤◌};
 ghost use Rattle.layout.specs.Layout.{graph_header};
+ghost use Rattle.files.specs.Refusals.{refusal_in};
 ghost use Rattle.files.specs.Files.{graph_of, graph_records_refusal};
 ghost use Rattle.records.specs.Columns.{zeros};
-ghost use Rattle.readings.specs.Working.{GraphLists, refused_graph, graph_reading};
+ghost use Rattle.readings.specs.Working.{GraphLists, GraphRead};
 
 use crate::GraphReading;
-use files::{Refusal, graph_frame_refusal, records_refusal};
+use files::{Fault, check_graph_frame, check_records};
 use layout::{GRAPH_HEADER_BITS, GraphHeader, RECORD_BITS};
 use records::{edges_into, processor_edges_into, tasks_into};
-
-// A refused file: the refusal, and 0 elsewhere.
-fn refused_graph(refusal: Refusal) -> GraphReading
-    ensures { result ≡ refused_graph refusal }
-{
-    GraphReading {
-        refusal,
-        tasks: 0,
-        edges: 0,
-        input: 0,
-        output: 0,
-        bound: 0,
-        processor: [0; 64],
-        time: [0; 64],
-        source: [0; 320],
-        sink: [0; 320],
-        delay: [0; 320],
-    }
-}
 
 // The tasks and edges of a file whose counts are in range, into lists of zeros.
 fn graph_lists<'a>(
@@ -60,7 +42,7 @@ fn graph_lists<'a>(
     );
 }
 
-// The tasks and edges of a file whose counts are in range, into lists of zeros, and the refusal that they get.
+// The tasks and edges of a file whose counts are in range, into lists of zeros, checked.
 fn graph_records<'a>(
     bytes: &[u8],
     header: GraphHeader,
@@ -69,18 +51,18 @@ fn graph_records<'a>(
     source: &'a mut [u8],
     sink: &'a mut [u8],
     delay: &'a mut [u8],
-) -> Refusal
+) -> Result<(), Fault>
     requires header_value { header ≡ graph_header bytes.now }
     requires tasks_bound { (header.tasks ≤ 64) × (header.edges ≤ 256) }
     requires processor_value { (processor.old ≡ zeros 64) × (time.old ≡ zeros 64) }
     requires source_value { (source.old ≡ zeros 320) × (sink.old ≡ zeros 320) × (delay.old ≡ zeros 320) }
-    ensures refusal { result ≡ graph_records_refusal (graph_of bytes.now) }
+    ensures refusal { refusal_in result ≡ graph_records_refusal (graph_of bytes.now) }
     ensures lists { GraphLists (graph_of bytes.now) processor.new time.new source.new sink.new delay.new }
 {
     let tasks = header.tasks as usize;
     let end = tasks + header.edges as usize;
     graph_lists(bytes, header, processor, time, source, sink, delay);
-    records_refusal(
+    check_records(
         &processor[0..tasks],
         &time[0..tasks],
         &source[tasks..end],
@@ -89,21 +71,18 @@ fn graph_records<'a>(
     )
 }
 
-// The graph that a file holds, in its working form, or the refusal of 1 to 8 that it gets, for every list of bytes.
-pub fn read_graph(bytes: &[u8]) -> GraphReading
-    ensures { result ≡ graph_reading bytes.now }
+// The graph that a file holds, in its working form, or the fault of 1 to 8 that it has, for every list of bytes.
+pub fn read_graph(bytes: &[u8]) -> Result<GraphReading, Fault>
+    ensures { GraphRead bytes.now result }
 {
     let header = layout::graph_header(bytes);
-    let frame = graph_frame_refusal(bytes, header);
-    if frame.number != 0 {
-        return refused_graph(frame);
-    }
+    check_graph_frame(bytes, header)?;
     let mut processor: [u8; 64] = [0; 64];
     let mut time: [u16; 64] = [0; 64];
     let mut source: [u8; 320] = [0; 320];
     let mut sink: [u8; 320] = [0; 320];
     let mut delay: [u8; 320] = [0; 320];
-    let refusal = graph_records(
+    graph_records(
         bytes,
         header,
         &mut processor,
@@ -111,12 +90,8 @@ pub fn read_graph(bytes: &[u8]) -> GraphReading
         &mut source,
         &mut sink,
         &mut delay,
-    );
-    if refusal.number != 0 {
-        return refused_graph(refusal);
-    }
-    GraphReading {
-        refusal,
+    )?;
+    Ok(GraphReading {
         tasks: header.tasks,
         edges: header.edges,
         input: header.input,
@@ -127,5 +102,5 @@ pub fn read_graph(bytes: &[u8]) -> GraphReading
         source,
         sink,
         delay,
-    }
+    })
 }

@@ -4,15 +4,13 @@
 mod graphs;
 mod proposals;
 
-use files::Refusal;
 pub use graphs::read_graph;
 pub use proposals::read_proposal;
 
 // A graph file as read, by value. The edges that order the graph stand in one list: processor edges first, entry v the one out of task v, then from
-// entry `tasks` on those of the file. Past the ends, and in a refused reading, every number is 0.
+// entry `tasks` on those of the file. Past the ends every number is 0.
 #[derive(Clone, Copy)]
 pub struct GraphReading {
-    pub refusal: Refusal,
     pub tasks: u32,
     pub edges: u32,
     pub input: u32,
@@ -25,10 +23,9 @@ pub struct GraphReading {
     pub delay: [u8; 320],
 }
 
-// A proposal file as read, by value. Past the end, and in a refused reading, every number is 0.
+// A proposal file as read, by value. Past the end every number is 0.
 #[derive(Clone, Copy)]
 pub struct ProposalReading {
-    pub refusal: Refusal,
     pub edges: u32,
     pub source: [u8; 256],
     pub sink: [u8; 256],

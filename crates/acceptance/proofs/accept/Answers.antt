@@ -1,4 +1,4 @@
--- `acceptance::accept` meets its contract: the reading's refusal if it has one, else that of the checks on the fronts of its lists.
+-- `acceptance::accept` meets its contract: the fault that reading finds, else that of the checks on the fronts of the lists.
 use mathlib.Core.Path.{◌≡◌, sym, subst}
 use mathlib.Core.List.{List}
 use Prim.Native.Nat.{ℕ}
@@ -8,33 +8,35 @@ use Rattle.model.specs.Tasks.{Edge}
 use Rattle.model.specs.Graph.{count, edges}
 use Rattle.delays.specs.Delays.{Fit}
 use Rattle.files.specs.Files.{graph_of}
-use Rattle.acceptance.proofs.Fronts.{front, fronts, formed, graph-fit, file-times}
-use Rattle.acceptance.proofs.Accepting.{read-passed, lists-within, not-read, judged}
+use Rattle.files.proofs.First.{gives-fault}
+use Rattle.acceptance.proofs.Fronts.{front, graph-fit, file-times}
+use Rattle.acceptance.proofs.Accepting.{read-refused, read-well, read-held, lists-within, judged, accepts}
 use Rattle.acceptance.proofs.accept.Goals as goal
 
-pub returns-then-unread-ne0 : goal.returns-then-unread-ne0
-returns-then-unread-ne0 c = not-read c.args.graph.now c.read_graph-reading.ensures c.if-unread-ne0.true
+pub returns-in_err-reading : goal.returns-in_err-reading
+returns-in_err-reading c =
+    let back = c.from_residual.ensures in
+    gives-fault _ _ back.0 back.1 (read-refused c.args.graph.now _ c.in_err-reading.ensures.refusal)
 
 pub slice_bounds-check_schedule-end : goal.slice_bounds-check_schedule-end
-slice_bounds-check_schedule-end c = (lists-within c.args.graph.now c.read_graph-reading.ensures c.if-unread-ne0.false).source
+slice_bounds-check_schedule-end c = (lists-within c.args.graph.now c.in_ok-reading.ensures).source
 
 pub slice_bounds-check_schedule-end-2 : goal.slice_bounds-check_schedule-end-2
-slice_bounds-check_schedule-end-2 c = (lists-within c.args.graph.now c.read_graph-reading.ensures c.if-unread-ne0.false).sink
+slice_bounds-check_schedule-end-2 c = (lists-within c.args.graph.now c.in_ok-reading.ensures).sink
 
 pub slice_bounds-check_schedule-end-3 : goal.slice_bounds-check_schedule-end-3
-slice_bounds-check_schedule-end-3 c = (lists-within c.args.graph.now c.read_graph-reading.ensures c.if-unread-ne0.false).delay
+slice_bounds-check_schedule-end-3 c = (lists-within c.args.graph.now c.in_ok-reading.ensures).delay
 
 pub slice_bounds-check_schedule-end-4 : goal.slice_bounds-check_schedule-end-4
-slice_bounds-check_schedule-end-4 c = (lists-within c.args.graph.now c.read_graph-reading.ensures c.if-unread-ne0.false).time
+slice_bounds-check_schedule-end-4 c = (lists-within c.args.graph.now c.in_ok-reading.ensures).time
 
-pub check_schedule-checked-requires : goal.check_schedule-checked-requires
-check_schedule-checked-requires c =
+pub check_schedule-latency-requires : goal.check_schedule-latency-requires
+check_schedule-latency-requires c =
     let s = c.args.graph.now in
-    let read = c.read_graph-reading.ensures in
-    let passed = read-passed s read c.if-unread-ne0.false in
-    let f = fronts s read passed in
-    let well = formed s read passed in
-    let r = c.read_graph-reading.result in
+    let read = c.in_ok-reading.ensures in
+    let f = read-held s read in
+    let well = read-well s read in
+    let r = c.in_ok-reading.reading in
     let g = graph_of s in
     let n = length (front r.tasks r.time) in
     let as_many : n ≡ count g = f.as-many-times in
@@ -45,5 +47,10 @@ check_schedule-checked-requires c =
       file_times = file-times g (front r.tasks r.time) well as_many f.times_are;
     }
 
+pub returns-in_err-latency : goal.returns-in_err-latency
+returns-in_err-latency c =
+    let back = c.from_residual-in_err-latency.ensures in
+    gives-fault _ _ back.0 back.1 (judged c.args.graph.now c.in_ok-reading.ensures c.in_err-latency.ensures.refusal)
+
 pub returns : goal.returns
-returns c = judged c.args.graph.now c.read_graph-reading.ensures c.if-unread-ne0.false c.check_schedule-checked.ensures.refusal c.check_schedule-checked.ensures.latency
+returns c = accepts c.args.graph.now c.in_ok-reading.ensures c.in_ok-latency.ensures

@@ -5,7 +5,6 @@ use native.Mathlib.Omega.{arith}
 use lib.ListN.{length}
 use mir.Facts.{Fits-widen}
 use borrow.Author.Tests.{not-true, not-false}
-use Rattle.files.proofs.First.{if-passed, if-refused}
 use Rattle.model.specs.Tasks.{Ends}
 use Rattle.model.specs.Compute.{latency, zero_cycle}
 use Rattle.records.specs.Columns.{edges_of, zeros, at}
@@ -37,7 +36,7 @@ unfolding zeros at
 returns-then-turn c =
     record {
       refusal = sym (stops-9 (length c.args.time.now) (edges_of c.args.source.now c.args.sink.now c.args.delay.now) (at c.args.time.now) c.args.input c.args.output c.args.bound (sym (ap (λ (m : ℕ). zero_cycle m (edges_of c.args.source.now c.args.sink.now c.args.delay.now)) (front_length 64 0 c.no_starts-starts.ensures c.requires.time_len_bound.0)) ∙ sym c.first_turn-turn.ensures.cyclic ∙ c.if-turn.true));
-      latency = sym (if-refused 9 (latency (length c.args.time.now) (edges_of c.args.source.now c.args.sink.now c.args.delay.now) (at c.args.time.now) c.args.output) 0 (λ z. omega arith));
+      value = tt;
     }
 
 pub returns-then-not-turn : goal.returns-then-not-turn
@@ -45,7 +44,7 @@ unfolding zeros at
 returns-then-not-turn c =
     record {
       refusal = sym (stops-10 (length c.args.time.now) (edges_of c.args.source.now c.args.sink.now c.args.delay.now) (at c.args.time.now) c.args.input c.args.output c.args.bound (sym (ap (λ (m : ℕ). zero_cycle m (edges_of c.args.source.now c.args.sink.now c.args.delay.now)) (front_length 64 0 c.no_starts-starts.ensures c.requires.time_len_bound.0)) ∙ sym c.first_turn-turn.ensures.cyclic ∙ c.if-turn.false) (sym c.first_turn-turn.ensures.free ∙ not-true _ c.if-not-turn.true));
-      latency = sym (if-refused 10 (latency (length c.args.time.now) (edges_of c.args.source.now c.args.sink.now c.args.delay.now) (at c.args.time.now) c.args.output) 0 (λ z. omega arith));
+      value = tt;
     }
 
 pub returns-then-not-is_reached : goal.returns-then-not-is_reached
@@ -53,7 +52,7 @@ unfolding zeros at
 returns-then-not-is_reached c =
     record {
       refusal = sym (stops-11 (length c.args.time.now) (edges_of c.args.source.now c.args.sink.now c.args.delay.now) (at c.args.time.now) c.args.input c.args.output c.args.bound (sym (ap (λ (m : ℕ). zero_cycle m (edges_of c.args.source.now c.args.sink.now c.args.delay.now)) (front_length 64 0 c.no_starts-starts.ensures c.requires.time_len_bound.0)) ∙ sym c.first_turn-turn.ensures.cyclic ∙ c.if-turn.false) (sym c.first_turn-turn.ensures.free ∙ not-false _ c.if-not-turn.false) (sym (turn-joined c.requires.fit.ends (turn-sized (front_length 64 0 c.no_starts-starts.ensures c.requires.time_len_bound.0) (c.first_turn-turn.ensures.turned c.if-turn.false)) c.args.output) ∙ sym c.is_reached.ensures ∙ c.if-not-is_reached.true));
-      latency = sym (if-refused 11 (latency (length c.args.time.now) (edges_of c.args.source.now c.args.sink.now c.args.delay.now) (at c.args.time.now) c.args.output) 0 (λ z. omega arith));
+      value = tt;
     }
 
 pub overflow_cast-latency : goal.overflow_cast-latency
@@ -71,7 +70,7 @@ unfolding zeros at
 returns-then-bound-latency c =
     record {
       refusal = sym (stops-12 (length c.args.time.now) (edges_of c.args.source.now c.args.sink.now c.args.delay.now) (at c.args.time.now) c.args.input c.args.output c.args.bound (sym (ap (λ (m : ℕ). zero_cycle m (edges_of c.args.source.now c.args.sink.now c.args.delay.now)) (front_length 64 0 c.no_starts-starts.ensures c.requires.time_len_bound.0)) ∙ sym c.first_turn-turn.ensures.cyclic ∙ c.if-turn.false) (sym c.first_turn-turn.ensures.free ∙ not-false _ c.if-not-turn.false) (sym (turn-joined c.requires.fit.ends (turn-sized (front_length 64 0 c.no_starts-starts.ensures c.requires.time_len_bound.0) (c.first_turn-turn.ensures.turned c.if-turn.false)) c.args.output) ∙ sym c.is_reached.ensures ∙ c.if-not-is_reached.false) (below-same c.if-bound-latency.true (ap (λ (x : ℕ). x + at c.args.time.now c.args.output) (front-start c.first_turn-turn.new.row _ (c.first_turn-turn.ensures.size ∙ front_length 64 0 c.no_starts-starts.ensures c.requires.time_len_bound.0) c.args.output c.requires.time_len_bound.2) ∙ turn-latency c.requires.fit.ends (sym (ap (λ (m : ℕ). zero_cycle m (edges_of c.args.source.now c.args.sink.now c.args.delay.now)) (front_length 64 0 c.no_starts-starts.ensures c.requires.time_len_bound.0)) ∙ sym c.first_turn-turn.ensures.cyclic ∙ c.if-turn.false) (λ v l. (c.requires.file_times v l).0) (turn-sized (front_length 64 0 c.no_starts-starts.ensures c.requires.time_len_bound.0) (c.first_turn-turn.ensures.turned c.if-turn.false)) (front_at 64 0 c.no_starts-starts.ensures c.requires.time_len_bound.0) c.args.output c.requires.time_len_bound.2)));
-      latency = sym (if-refused 12 (latency (length c.args.time.now) (edges_of c.args.source.now c.args.sink.now c.args.delay.now) (at c.args.time.now) c.args.output) 0 (λ z. omega arith));
+      value = tt;
     }
 
 pub returns : goal.returns
@@ -79,5 +78,5 @@ unfolding zeros at
 returns c =
     record {
       refusal = sym (passed (length c.args.time.now) (edges_of c.args.source.now c.args.sink.now c.args.delay.now) (at c.args.time.now) c.args.input c.args.output c.args.bound (sym (ap (λ (m : ℕ). zero_cycle m (edges_of c.args.source.now c.args.sink.now c.args.delay.now)) (front_length 64 0 c.no_starts-starts.ensures c.requires.time_len_bound.0)) ∙ sym c.first_turn-turn.ensures.cyclic ∙ c.if-turn.false) (sym c.first_turn-turn.ensures.free ∙ not-false _ c.if-not-turn.false) (sym (turn-joined c.requires.fit.ends (turn-sized (front_length 64 0 c.no_starts-starts.ensures c.requires.time_len_bound.0) (c.first_turn-turn.ensures.turned c.if-turn.false)) c.args.output) ∙ sym c.is_reached.ensures ∙ c.if-not-is_reached.false) (at-most-same c.if-bound-latency.false (ap (λ (x : ℕ). x + at c.args.time.now c.args.output) (front-start c.first_turn-turn.new.row _ (c.first_turn-turn.ensures.size ∙ front_length 64 0 c.no_starts-starts.ensures c.requires.time_len_bound.0) c.args.output c.requires.time_len_bound.2) ∙ turn-latency c.requires.fit.ends (sym (ap (λ (m : ℕ). zero_cycle m (edges_of c.args.source.now c.args.sink.now c.args.delay.now)) (front_length 64 0 c.no_starts-starts.ensures c.requires.time_len_bound.0)) ∙ sym c.first_turn-turn.ensures.cyclic ∙ c.if-turn.false) (λ v l. (c.requires.file_times v l).0) (turn-sized (front_length 64 0 c.no_starts-starts.ensures c.requires.time_len_bound.0) (c.first_turn-turn.ensures.turned c.if-turn.false)) (front_at 64 0 c.no_starts-starts.ensures c.requires.time_len_bound.0) c.args.output c.requires.time_len_bound.2)));
-      latency = ap (λ (x : ℕ). x + at c.args.time.now c.args.output) (front-start c.first_turn-turn.new.row _ (c.first_turn-turn.ensures.size ∙ front_length 64 0 c.no_starts-starts.ensures c.requires.time_len_bound.0) c.args.output c.requires.time_len_bound.2) ∙ turn-latency c.requires.fit.ends (sym (ap (λ (m : ℕ). zero_cycle m (edges_of c.args.source.now c.args.sink.now c.args.delay.now)) (front_length 64 0 c.no_starts-starts.ensures c.requires.time_len_bound.0)) ∙ sym c.first_turn-turn.ensures.cyclic ∙ c.if-turn.false) (λ v l. (c.requires.file_times v l).0) (turn-sized (front_length 64 0 c.no_starts-starts.ensures c.requires.time_len_bound.0) (c.first_turn-turn.ensures.turned c.if-turn.false)) (front_at 64 0 c.no_starts-starts.ensures c.requires.time_len_bound.0) c.args.output c.requires.time_len_bound.2 ∙ sym (if-passed 0 (latency (length c.args.time.now) (edges_of c.args.source.now c.args.sink.now c.args.delay.now) (at c.args.time.now) c.args.output) 0 refl);
+      value = ap (λ (x : ℕ). x + at c.args.time.now c.args.output) (front-start c.first_turn-turn.new.row _ (c.first_turn-turn.ensures.size ∙ front_length 64 0 c.no_starts-starts.ensures c.requires.time_len_bound.0) c.args.output c.requires.time_len_bound.2) ∙ turn-latency c.requires.fit.ends (sym (ap (λ (m : ℕ). zero_cycle m (edges_of c.args.source.now c.args.sink.now c.args.delay.now)) (front_length 64 0 c.no_starts-starts.ensures c.requires.time_len_bound.0)) ∙ sym c.first_turn-turn.ensures.cyclic ∙ c.if-turn.false) (λ v l. (c.requires.file_times v l).0) (turn-sized (front_length 64 0 c.no_starts-starts.ensures c.requires.time_len_bound.0) (c.first_turn-turn.ensures.turned c.if-turn.false)) (front_at 64 0 c.no_starts-starts.ensures c.requires.time_len_bound.0) c.args.output c.requires.time_len_bound.2;
     }

@@ -21,7 +21,7 @@ bounds-delay-j c = omega (arith, c.requires.j_in_bounds, c.requires.delay_len)
 
 pub loop-i-init : goal.loop-i-init
 unfolding any_below
-loop-i-init c = (omega arith, λ es from to turns. refl)
+loop-i-init c = λ es from to turns. refl
 
 pub bounds-source-i : goal.bounds-source-i
 bounds-source-i c = omega (arith, c.requires.j_in_bounds)
@@ -32,25 +32,20 @@ bounds-sink-i c = omega (arith, c.requires.j_in_bounds, c.requires.sink_len)
 pub bounds-delay-i : goal.bounds-delay-i
 bounds-delay-i c = omega (arith, c.requires.j_in_bounds, c.requires.delay_len)
 
-pub overflow_add-i : goal.overflow_add-i
-overflow_add-i c = omega (arith, c.ranges.j)
-
 pub loop-i-preserved : goal.loop-i-preserved
 unfolding any_below
 loop-i-preserved c =
     let i = c.loop-i.i in
     let j = c.args.j in
-    let earlier = c.loop-i-test.true in (
-      omega arith,
-      λ es from to turns.
-          let test : ℕ → Bool = λ k. same_edge (edge_in es k) (edge_in es j) in
-          (λ d. c.loop-i.invariant.1 es from to turns d || same_numbers es from to turns i j earlier c.requires.j_in_bounds d) ∙
-          ap (λ (m : ℕ). any_below m test) (sym (add-one i)),
-    )
+    let earlier = c.loop-i-test.true in
+    λ es from to turns.
+    let test : ℕ → Bool = λ k. same_edge (edge_in es k) (edge_in es j) in
+    (λ d. c.loop-i.invariant es from to turns d || same_numbers es from to turns i j earlier c.requires.j_in_bounds d) ∙
+    ap (λ (m : ℕ). any_below m test) (sym (add-one i))
 
 pub returns : goal.returns
 unfolding repeats_earlier
 returns c = λ es from to turns.
     let j = c.args.j in
     let whole : c.loop-i.i ≡ j = omega arith in
-    c.loop-i.invariant.1 es from to turns ∙ ap (λ (m : ℕ). any_below m (λ k. same_edge (edge_in es k) (edge_in es j))) whole
+    c.loop-i.invariant es from to turns ∙ ap (λ (m : ℕ). any_below m (λ k. same_edge (edge_in es k) (edge_in es j))) whole

@@ -11,8 +11,4 @@ use Rattle.files.proofs.checks.repeats_earlier.Given as goal
 
 abbrev pub invariant-loop-i : goal.invariant-loop-i
 invariant-loop-i l =
-    (l.i ≤ l.j) ×
-    ((es : List Edge) → SourcesOf es l.source → SinksOf es l.sink → DelaysOf es l.delay → l.found ≡ any_below l.i (λ k. same_edge (edge_in es k) (edge_in es l.j)))
-
-abbrev pub decreases-loop-i : goal.decreases-loop-i
-decreases-loop-i l = l.j - l.i
+    (es : List Edge) → SourcesOf es l.source → SinksOf es l.sink → DelaysOf es l.delay → l.found ≡ any_below l.i (λ k. same_edge (edge_in es k) (edge_in es l.j))

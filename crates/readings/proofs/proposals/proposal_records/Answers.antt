@@ -19,18 +19,18 @@ edges_into-requires c =
       to_in_bounds = (zeros-room 256 asked.source_value.0 asked.edges_bound, zeros-room 256 asked.source_value.1 asked.edges_bound, zeros-room 256 asked.source_value.2 asked.edges_bound);
     }
 
-pub slice_bounds-proposed_refusal-end : goal.slice_bounds-proposed_refusal-end
-slice_bounds-proposed_refusal-end c =
+pub slice_bounds-check_proposed-end : goal.slice_bounds-check_proposed-end
+slice_bounds-check_proposed-end c =
     let asked = c.requires in
     filled-room 256 _ _ asked.edges_bound asked.source_value.0 c.edges_into.ensures.source_after asked.edges_bound
 
-pub slice_bounds-proposed_refusal-end-2 : goal.slice_bounds-proposed_refusal-end-2
-slice_bounds-proposed_refusal-end-2 c =
+pub slice_bounds-check_proposed-end-2 : goal.slice_bounds-check_proposed-end-2
+slice_bounds-check_proposed-end-2 c =
     let asked = c.requires in
     filled-room 256 _ _ asked.edges_bound asked.source_value.1 c.edges_into.ensures.sink_after asked.edges_bound
 
-pub slice_bounds-proposed_refusal-end-3 : goal.slice_bounds-proposed_refusal-end-3
-slice_bounds-proposed_refusal-end-3 c =
+pub slice_bounds-check_proposed-end-3 : goal.slice_bounds-check_proposed-end-3
+slice_bounds-check_proposed-end-3 c =
     let asked = c.requires in
     filled-room 256 _ _ asked.edges_bound asked.source_value.2 c.edges_into.ensures.delay_after asked.edges_bound
 
@@ -45,7 +45,7 @@ returns c =
     let sources = proposal-list (λ e. e.source) refl c.args.bytes.now (ap (λ (h : ProposalHeader). h.edges) c.requires.header_value) c.requires.edges_bound c.requires.source_value.0 c.edges_into.ensures.source_after in
     let sinks = proposal-list (λ e. e.sink) refl c.args.bytes.now (ap (λ (h : ProposalHeader). h.edges) c.requires.header_value) c.requires.edges_bound c.requires.source_value.1 c.edges_into.ensures.sink_after in
     let delays = proposal-list (λ e. e.delay) refl c.args.bytes.now (ap (λ (h : ProposalHeader). h.edges) c.requires.header_value) c.requires.edges_bound c.requires.source_value.2 c.edges_into.ensures.delay_after in record {
-      refusal = c.proposed_refusal.ensures es
+      refusal = c.check_proposed.ensures es
           (column-of-front no_edge (λ e. e.source) es 256 c.args.header.edges sources few as_many)
           (column-of-front no_edge (λ e. e.sink) es 256 c.args.header.edges sinks few as_many)
           (column-of-front no_edge (λ e. e.delay) es 256 c.args.header.edges delays few as_many);

@@ -1,0 +1,14 @@
+-- `files::checks::check_edges` meets its contract: no edge that was looked at so far is refused.
+use mathlib.Core.Path.{◌≡◌}
+use mathlib.Core.List.{List}
+use Prim.Native.Nat.{ℕ, ◌-◌, ◌≤◌, ◌<◌}
+use lib.ListN.{length}
+use Rattle.model.specs.Tasks.{Task, Edge}
+use Rattle.files.specs.Refusals.{not_refused}
+use Rattle.files.specs.Files.{edge_refusal}
+use Rattle.records.specs.Columns.{ProcessorsOf, SourcesOf, SinksOf}
+use Rattle.files.proofs.checks.check_edges.Given as goal
+
+abbrev pub invariant-loop-j : goal.invariant-loop-j
+invariant-loop-j l =
+    (ts : List Task) (es : List Edge) → ProcessorsOf ts l.processor → SourcesOf es l.source → SinksOf es l.sink → (i : ℕ) → i < l.j → edge_refusal ts es i ≡ not_refused
