@@ -8,7 +8,7 @@ returns-then-has_bit c = λ b.
     let args = c.args in
     bits-taken args.word args.row args.k b (sym c.has_bit.ensures ∙ c.if-has_bit.true)
 
-pub returns : goal.returns
-returns c = λ b.
+pub returns-else-has_bit : goal.returns-else-has_bit
+returns-else-has_bit c = λ b.
     let args = c.args in
     bits_left args.word args.row args.k b (sym c.has_bit.ensures ∙ c.if-has_bit.false)
