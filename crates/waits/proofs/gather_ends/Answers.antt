@@ -1,7 +1,7 @@
 -- `waits::gather_ends` meets its contract: after k steps the first k entries are heeded.
 use mathlib.Core.Path.{sym, ap, subst, ◌∙◌}
 use mathlib.Core.List.{List}
-use Prim.Native.Nat.{ℕ, ◌+◌, ◌<◌, max}
+use Prim.Native.Nat.{ℕ, ◌+◌, max}
 use native.Mathlib.Omega.{arith}
 use lib.ListN.{length, get_or, set}
 use Rattle.records.specs.Columns.{at, zeros}
@@ -12,14 +12,6 @@ use Rattle.waits.proofs.gather_ends.Goals as goal
 pub loop-k-init : goal.loop-k-init
 unfolding zeros
 loop-k-init c = awaited-none c.args.back.now c.args.lasting.now c.args.sink.now c.args.starts.now (c.fill.ensures.after (λ y e. e))
-
-pub asked_end-end-requires : goal.asked_end-end-requires
-asked_end-end-requires c = ((c.requires.by_index.0 c.loop-k.k c.loop-k-test.true).0, c.requires.by_index.1)
-
-pub lift-requires : goal.lift-requires
-lift-requires c =
-    let first : 0 < length c.args.back.now = omega (arith, c.loop-k-test.true) in
-    omega (arith, (c.requires.by_index.0 c.loop-k.k c.loop-k-test.true).1, (c.requires.by_index.0 0 first).1, c.loop-k.invariant.size)
 
 pub loop-k-preserved : goal.loop-k-preserved
 loop-k-preserved c =
