@@ -24,20 +24,20 @@ take_edges-requires c =
 pub walk_tasks-requires : goal.walk_tasks-requires
 unfolding zeros
 walk_tasks-requires c =
-    let same = sym (front_length 64 0 c.no_starts-starts.ensures c.requires.in_bounds.1) in
+    let same = sym (front_length 64 0 refl c.requires.in_bounds.1) in
     let sources = c.take_edges.new.sources in
     let sinks = c.take_edges.new.sinks in
     record {
       sinks_len = (c.take_edges.ensures.sinks.room, c.take_edges.ensures.sources.room, same);
       input_in_bounds = (subst (λ (m : ℕ). 0 < m) same c.requires.in_bounds.0, subst (λ (m : ℕ). m ≤ 64) same c.requires.in_bounds.1, refl);
       crossed = subst (λ (m : ℕ). Crossed sinks sources m) same (crossed c.take_edges.ensures.sinks c.take_edges.ensures.sources c.requires.in_bounds.1 c.requires.ends);
-      by_index = λ v l. front_at 64 0 c.no_starts-starts.ensures c.requires.in_bounds.1 v (subst (λ (m : ℕ). v < m) (sym same) l);
+      by_index = λ v l. front_at 64 0 refl c.requires.in_bounds.1 v (subst (λ (m : ℕ). v < m) (sym same) l);
     }
 
 pub returns : goal.returns
 unfolding zeros
 returns c =
-    let same = front_length 64 0 c.no_starts-starts.ensures c.requires.in_bounds.1 in
+    let same = front_length 64 0 refl c.requires.in_bounds.1 in
     let walk = c.walk_tasks.ensures in
     let sinks = c.take_edges.new.sinks in
     let sources = c.take_edges.new.sources in
