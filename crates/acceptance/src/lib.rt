@@ -14,7 +14,6 @@ ghost use Rattle.acceptance.specs.Outcomes.{outcome, room_refusal};
 use files::{Fault, Refusal};
 use readings::{GraphReading, read_graph};
 use turn::first_turn;
-use waits::no_starts;
 
 // An accepted graph: its latency, and the file as read.
 #[derive(Clone, Copy)]
@@ -97,8 +96,7 @@ fn check_schedule<'a>(
     ensures { Gives result (schedule_checks (length time.now) (edges_of source.now sink.now delay.now) (at time.now) input output bound) (latency (length time.now) (edges_of source.now sink.now delay.now) (at time.now) output) }
 {
     let tasks = time.len();
-    let starts = no_starts();
-    let mut start = starts.start;
+    let mut start: [u32; 64] = [0; 64];
     let turn = first_turn(source, sink, delay, time, input, &mut start[0..tasks]);
     if turn.cyclic {
         return Err(Fault::ZeroCycle);
