@@ -21,40 +21,21 @@ fn below(x: u16, limit: u16) -> u16
     requires { (x ≤ 32767) × (limit ≤ 32767) }
     ensures { result ≡ counted (leb (x + 1) limit) 1 }
 {
-    if (x as i16) < (limit as i16) {
-        return 1;
-    }
-    0
-}
-
-// What is left of a limit after a delay; nothing if the delay reaches it.
-fn left_of(limit: u16, delay: u16) -> u16
-    ensures { result ≡ limit - delay }
-{
-    if delay <= limit {
-        return limit - delay;
-    }
-    0
+    u16::from((x as i16) < (limit as i16))
 }
 
 // Whether a row of counts has to be looked at: not if as much is left as before, and no more than the least of the other delays that fell.
 fn moves(old: u16, new: u16, fell: u16) -> bool
     ensures { result ≡ false → Still fell old new }
 {
-    if old != new {
-        return true;
-    }
-    fell < new
+    old != new || fell < new
 }
 
 // Whether two numbers are above a third.
 fn both_above(most: u16, x: u16, y: u16) -> bool
     ensures { result ≡ true → (most < x) × (most < y) }
 {
-    if x <= most {
-        return false;
-    }
-    most < y
+    most < x && most < y
 }
 
 // Whether the pair (a, b) subsumes an edge.
@@ -94,15 +75,13 @@ fn limit_after<'a>(
     delay as u16 + 1
 }
 
-// What each delay of a row leaves of a limit.
+// What each delay of a row leaves of a limit: nothing if it reaches the limit.
 fn left_row(delays: &[u16], limit: u16, left: &mut [u16])
     requires { (length delays.now ≡ 64) × (length left.old ≡ 64) }
     ensures { LeftRow delays.now limit 64 left.new }
 {
-    let mut a = 0;
-    while a < WIDTH {
-        left[a] = left_of(limit, delays[a]);
-        a += 1;
+    for a in 0..WIDTH {
+        left[a] = limit.saturating_sub(delays[a]);
     }
 }
 
@@ -111,10 +90,8 @@ fn row_below(delays: &[u16], limit: u16, row: &mut [u16])
     requires { (length delays.now ≡ 64) × (limit ≤ 32767) × (length row.old ≡ 64) × Small delays.now }
     ensures { BelowRow delays.now limit 64 row.new }
 {
-    let mut b = 0;
-    while b < WIDTH {
+    for b in 0..WIDTH {
         row[b] = below(delays[b], limit);
-        b += 1;
     }
 }
 
@@ -134,10 +111,8 @@ fn exchange_row<'a>(more: &'a [u16], less: &'a [u16], place: usize, counts: &mut
     requires by_index { (b : ℕ) → b < 64 → (at more.now b ≤ 1) × (at less.now b ≤ at counts.old (place + b)) × (at counts.old (place + b) ≤ 256) }
     ensures { RowShifted (λ b. at less.now b) (λ b. at more.now b) place 64 counts.old counts.new }
 {
-    let mut b = 0;
-    while b < WIDTH {
+    for b in 0..WIDTH {
         counts[place + b] = counts[place + b] + more[b] - less[b];
-        b += 1;
     }
 }
 
@@ -167,8 +142,7 @@ fn shift_edge<'a>(
     let mut less: [u16; 64] = [0; 64];
     let mut last = 0;
     let mut next_last = 0;
-    let mut a = 0;
-    while a < tasks {
+    for a in 0..tasks {
         let before = old[a];
         let after = new[a];
         if moves(before, after, fell) {
@@ -178,7 +152,6 @@ fn shift_edge<'a>(
             next_last = after;
             exchange_row(&more, &less, a * WIDTH, counts);
         }
-        a += 1;
     }
 }
 
@@ -219,8 +192,7 @@ pub fn count_edges<'a>(
     requires small { Small to.now × ((i : ℕ) → at counts.old i ≡ 0) }
     ensures { CountsOf tasks from.now to.now (edges_of source.now sink.now delay.now) counts.new }
 {
-    let mut j = 0;
-    while j < source.len() {
+    for j in 0..source.len() {
         count_edge(
             from,
             to,
@@ -230,7 +202,6 @@ pub fn count_edges<'a>(
             tasks,
             counts,
         );
-        j += 1;
     }
 }
 
@@ -299,10 +270,8 @@ fn shift_edges<'a>(
     requires counts_of { CountsOf tasks from.now to.now (edges_of source.now sink.now delay.now) counts.old }
     ensures { (from' to' : List ℕ) → Lowers a b tasks from.now from' → Lowers b a tasks to.now to' → CountsOf tasks from' to' (keep (λ e. not (subsumes_by from.now to.now a b e)) (edges_of source.now sink.now delay.now)) counts.new }
 {
-    let mut j = 0;
-    while j < source.len() {
+    for j in 0..source.len() {
         shift_one(from, to, tasks, a, b, source[j], sink[j], delay[j], counts);
-        j += 1;
     }
 }
 

@@ -38,34 +38,31 @@ left_row-requires-2 c = (c.requires.from_len.2, refl)
 pub loop-a-init : goal.loop-a-init
 loop-a-init c =
     let args = c.args in
-    (omega arith, edge_none (at args.from.now) (at args.to.now) (at args.next_from.now) (at args.next_to.now) args.limit args.next_limit args.counts.now, below-zero args.to.now, below-zero args.next_to.now)
+    (edge_none (at args.from.now) (at args.to.now) (at args.next_from.now) (at args.next_to.now) args.limit args.next_limit args.counts.now, below-zero args.to.now, below-zero args.next_to.now)
 
 pub slice_bounds-renew_row-end : goal.slice_bounds-renew_row-end
-slice_bounds-renew_row-end c = sym c.loop-a.invariant.2.size
+slice_bounds-renew_row-end c = sym c.loop-a.invariant.1.size
 
 pub renew_row-requires : goal.renew_row-requires
 unfolding at
 renew_row-requires c =
     let rows = c.requires.from_len in
-    (rows.1, omega (arith, old-left (goal.at.renew_row-requires c).In-loop-a, c.requires.limit_bound.0), rows.4, c.loop-a.invariant.2)
+    (rows.1, omega (arith, old-left (goal.at.renew_row-requires c).In-loop-a, c.requires.limit_bound.0), rows.4, c.loop-a.invariant.1)
 
 pub slice_bounds-renew_row-end-then-moves : goal.slice_bounds-renew_row-end-then-moves
-slice_bounds-renew_row-end-then-moves c = sym c.loop-a.invariant.3.size
+slice_bounds-renew_row-end-then-moves c = sym c.loop-a.invariant.2.size
 
 pub renew_row-requires-then-moves : goal.renew_row-requires-then-moves
 unfolding at
 renew_row-requires-then-moves c =
     let rows = c.requires.from_len in
-    (rows.3, omega (arith, new-left (goal.at.renew_row-requires-then-moves c).In-loop-a, c.requires.limit_bound.1), rows.5, c.loop-a.invariant.3)
+    (rows.3, omega (arith, new-left (goal.at.renew_row-requires-then-moves c).In-loop-a, c.requires.limit_bound.1), rows.5, c.loop-a.invariant.2)
 
 pub slice_bounds-exchange_row-end : goal.slice_bounds-exchange_row-end
 slice_bounds-exchange_row-end c = sym c.renew_row-then-moves.ensures.size
 
 pub slice_bounds-exchange_row-end-then-moves : goal.slice_bounds-exchange_row-end-then-moves
 slice_bounds-exchange_row-end-then-moves c = sym c.renew_row.ensures.size
-
-pub overflow_mul-a : goal.overflow_mul-a
-overflow_mul-a c = omega (arith, c.requires.limit_bound.2, c.loop-a-test.true)
 
 pub exchange_row-requires : goal.exchange_row-requires
 unfolding at
@@ -77,14 +74,11 @@ exchange_row-requires c =
     let less = c.renew_row.ensures in
     let loop = c.loop-a in
     record {
-      more_len = (more.size, less.size, omega (arith, few.3, loop.invariant.1.size, below), omega (arith, few.2, below));
+      more_len = (more.size, less.size, omega (arith, few.3, loop.invariant.0.size, below), omega (arith, few.2, below));
       by_index = λ b l.
-          let covered = edge-covered (at args.from.now) (at args.to.now) (at args.next_from.now) (at args.next_to.now) args.limit args.next_limit loop.invariant.1 c.requires.covered below (old-left (goal.at.exchange_row-requires c).In-loop-a) b l in
+          let covered = edge-covered (at args.from.now) (at args.to.now) (at args.next_from.now) (at args.next_to.now) args.limit args.next_limit loop.invariant.0 c.requires.covered below (old-left (goal.at.exchange_row-requires c).In-loop-a) b l in
           (below-few args.next_to.now _ more b l, omega (arith, less.each b l, covered.0), covered.1);
     }
-
-pub overflow_add-a : goal.overflow_add-a
-overflow_add-a c = omega (arith, c.requires.limit_bound.2, c.loop-a-test.true)
 
 pub loop-a-preserved : goal.loop-a-preserved
 unfolding at
@@ -96,31 +90,24 @@ loop-a-preserved c =
     let Next : List ℕ → Type 0 = λ after. EdgeShifted (at args.from.now) (at args.to.now) (at args.next_from.now) (at args.next_to.now) args.limit args.next_limit (loop.a + 1) args.counts.now after in
     let Less : List ℕ → ℕ → Type 0 = λ row last. BelowRow args.to.now last 64 row in
     let More : List ℕ → ℕ → Type 0 = λ row last. BelowRow args.next_to.now last 64 row in (
-      omega arith,
       elim c.if-moves.branch [
         | then-moves w ↦
             subst Next (sym w.counts-is)
-            (edge_moved (at args.from.now) (at args.to.now) (at args.next_from.now) (at args.next_to.now) args.limit args.next_limit loop.invariant.1 old new (λ b l. w.renew_row.ensures.each b l) (λ b l. w.renew_row-then-moves.ensures.each b l) w.exchange_row.ensures)
+            (edge_moved (at args.from.now) (at args.to.now) (at args.next_from.now) (at args.next_to.now) args.limit args.next_limit loop.invariant.0 old new (λ b l. w.renew_row.ensures.each b l) (λ b l. w.renew_row-then-moves.ensures.each b l) w.exchange_row.ensures)
         | else-moves w ↦
             subst Next (sym w.counts-is)
-            (edge-passed (at args.from.now) (at args.to.now) (at args.next_from.now) (at args.next_to.now) args.limit args.next_limit loop.invariant.1 old new c.requires.limit_bound.4 (c.moves.ensures w.if-moves.false))
+            (edge-passed (at args.from.now) (at args.to.now) (at args.next_from.now) (at args.next_to.now) args.limit args.next_limit loop.invariant.0 old new c.requires.limit_bound.4 (c.moves.ensures w.if-moves.false))
       ],
       elim c.if-moves.branch [
         | then-moves w ↦ subst (λ (row : List ℕ). Less row c.if-moves.last) (sym w.less-is) (subst (Less _) (sym w.last-is) w.renew_row.ensures)
-        | else-moves w ↦ subst (λ (row : List ℕ). Less row c.if-moves.last) (sym w.less-is) (subst (Less _) (sym w.last-is) loop.invariant.2)
+        | else-moves w ↦ subst (λ (row : List ℕ). Less row c.if-moves.last) (sym w.less-is) (subst (Less _) (sym w.last-is) loop.invariant.1)
       ],
       elim c.if-moves.branch [
         | then-moves w ↦
             subst (λ (row : List ℕ). More row c.if-moves.next_last) (sym w.more-is) (subst (More _) (sym w.next_last-is) w.renew_row-then-moves.ensures)
-        | else-moves w ↦ subst (λ (row : List ℕ). More row c.if-moves.next_last) (sym w.more-is) (subst (More _) (sym w.next_last-is) loop.invariant.3)
+        | else-moves w ↦ subst (λ (row : List ℕ). More row c.if-moves.next_last) (sym w.more-is) (subst (More _) (sym w.next_last-is) loop.invariant.2)
       ],
     )
 
 pub shape_of-counts : goal.shape_of-counts
-shape_of-counts c = c.loop-a.invariant.1.size
-
-pub returns : goal.returns
-returns c =
-    let args = c.args in
-    let whole : c.loop-a.a ≡ args.tasks = omega arith in
-    subst (λ (a : ℕ). EdgeShifted (at args.from.now) (at args.to.now) (at args.next_from.now) (at args.next_to.now) args.limit args.next_limit a args.counts.now c.loop-a.counts) whole c.loop-a.invariant.1
+shape_of-counts c = c.loop-a.invariant.0.size
