@@ -24,18 +24,12 @@ counted-few false w = omega arith
 -- ── One row ──
 
 module _ (delays : List ℕ) (limit : ℕ) where
-  pub left-none : (left : List ℕ) → length left ≡ 64 → LeftRow delays limit 0 left
-  left-none left size = record { size = size; each = λ a l. absurd (not-suc-le-zero l) }
-
   pub left-more :
       {k : ℕ} {left : List ℕ} (v : ℕ) → LeftRow delays limit k left → k < 64 → v ≡ limit - at delays k → LeftRow delays limit (k + 1) (set left k v)
   left-more {k} {left} v done few is = record {
     size = length-set left k v ∙ done.size;
     each = stored_more (λ a x. x ≡ limit - at delays a) left v (omega (arith, done.size)) done.each is;
   }
-
-  pub below_none : (row : List ℕ) → length row ≡ 64 → BelowRow delays limit 0 row
-  below_none row size = record { size = size; each = λ b l. absurd (not-suc-le-zero l) }
 
   pub below_more :
       {k : ℕ} {row : List ℕ} (v : ℕ) → BelowRow delays limit k row → k < 64 → v ≡ counted (leb (at delays k + 1) limit) 1
@@ -58,9 +52,6 @@ below-zero delays = record {
 }
 
 module _ (less more : ℕ → ℕ) (place : ℕ) where
-  pub row_none : (before : List ℕ) → RowShifted less more place 0 before before
-  row_none before = record { size = refl; inside = λ b l. absurd (not-suc-le-zero l); outside = λ i out. refl }
-
   pub row_more :
       {k : ℕ} {before after : List ℕ} (v : ℕ) → RowShifted less more place k before after → place + k < length after
       → v + less k ≡ at after (place + k) + more k → RowShifted less more place (k + 1) before (set after (place + k) v)

@@ -44,9 +44,6 @@ loop-j-preserved c =
     let counted = c.count_edge.ensures in
     (first_counted args.source.now args.sink.now args.delay.now args.tasks args.from.now args.to.now c.loop-j.j c.loop-j.invariant.0 counted, counted.size ∙ c.loop-j.invariant.1)
 
-pub shape_of-counts : goal.shape_of-counts
-shape_of-counts c = c.loop-j.invariant.1
-
 pub returns : goal.returns
 unfolding edges_of
 returns c =

@@ -1,30 +1,18 @@
 -- `subsumption::exchange_row` meets its contract: after b steps the first b counts lost the one row and have the other.
 use mathlib.Core.Path.{◌≡◌}
 use mathlib.Core.Logic.{inr}
-use Prim.Native.Nat.{◌+◌, ◌<◌}
+use Prim.Native.Nat.{◌+◌}
 use native.Mathlib.Omega.{arith}
-use lib.ListN.{length}
 use Rattle.records.specs.Columns.{at}
-use Rattle.subsumption.proofs.Shifts.{row_none, row_more}
+use Rattle.subsumption.proofs.Shifts.{row_more}
 use Rattle.subsumption.proofs.exchange_row.Goals as goal
 use Rattle.subsumption.proofs.exchange_row.Goals.{In-loop-b}
 
--- the number read and written stands within the counts, and is as it was
-inside : (c : In-loop-b) → c.args.place + c.loop-b.b < length c.loop-b.counts
-inside c = omega (arith, c.loop-b.invariant.size, c.requires.more_len)
-
+-- the number read and written is as it was
 still :
     (c : In-loop-b)
     → at c.loop-b.counts (c.args.place + c.loop-b.b) ≡ at c.args.counts.now (c.args.place + c.loop-b.b)
 still c = c.loop-b.invariant.outside (c.args.place + c.loop-b.b) (inr (omega arith))
-
-pub loop-b-init : goal.loop-b-init
-loop-b-init c =
-    let args = c.args in
-    row_none (λ b. at args.less.now b) (λ b. at args.more.now b) args.place args.counts.now
-
-pub bounds-counts-place : goal.bounds-counts-place
-bounds-counts-place c = inside (goal.at.bounds-counts-place c).In-loop-b
 
 pub overflow_add-counts-in-loop-b : goal.overflow_add-counts-in-loop-b
 unfolding at
@@ -36,15 +24,9 @@ unfolding at
 overflow_sub-counts c =
     omega (arith, still (goal.at.overflow_sub-counts c).In-loop-b, c.requires.by_index c.loop-b.b (omega arith))
 
-pub bounds-counts-place-in-loop-b : goal.bounds-counts-place-in-loop-b
-bounds-counts-place-in-loop-b c = inside (goal.at.bounds-counts-place-in-loop-b c).In-loop-b
-
 pub loop-b-preserved : goal.loop-b-preserved
 unfolding at
 loop-b-preserved c =
     let args = c.args in
     let loop = c.loop-b in
-    row_more (λ b. at args.less.now b) (λ b. at args.more.now b) args.place _ loop.invariant (inside (goal.at.loop-b-preserved c).In-loop-b) (omega (arith, still (goal.at.loop-b-preserved c).In-loop-b, c.requires.by_index loop.b (omega arith)))
-
-pub shape_of-counts : goal.shape_of-counts
-shape_of-counts c = c.loop-b.invariant.size
+    row_more (λ b. at args.less.now b) (λ b. at args.more.now b) args.place _ loop.invariant (omega arith) (omega (arith, still (goal.at.loop-b-preserved c).In-loop-b, c.requires.by_index loop.b (omega arith)))

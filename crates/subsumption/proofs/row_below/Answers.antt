@@ -1,12 +1,8 @@
 -- `subsumption::row_below` meets its contract: after b steps the first b delays are tested.
-use mathlib.Core.Path.{sym, ◌∙◌}
 use native.Mathlib.Omega.{arith}
 use Rattle.records.specs.Columns.{at}
-use Rattle.subsumption.proofs.Shifts.{below_none, below_more}
+use Rattle.subsumption.proofs.Shifts.{below_more}
 use Rattle.subsumption.proofs.row_below.Goals as goal
-
-pub loop-b-init : goal.loop-b-init
-loop-b-init c = below_none c.args.delays.now c.args.limit c.args.row.now c.requires.2
 
 pub below-requires : goal.below-requires
 unfolding at
@@ -15,6 +11,3 @@ below-requires c = (omega (arith, c.requires.3 c.loop-b.b), omega (arith, c.requ
 pub loop-b-preserved : goal.loop-b-preserved
 unfolding at
 loop-b-preserved c = below_more c.args.delays.now c.args.limit c.below.result c.loop-b.invariant (omega arith) c.below.ensures
-
-pub shape_of-row : goal.shape_of-row
-shape_of-row c = c.loop-b.invariant.size ∙ sym c.requires.2

@@ -1,5 +1,5 @@
 -- `subsumption::shift_edge` meets its contract: after a steps the edge is counted anew for the pairs out of the first a tasks.
-use mathlib.Core.Path.{◌≡◌, refl, sym, subst}
+use mathlib.Core.Path.{◌≡◌, sym, subst}
 use mathlib.Core.List.{List}
 use Prim.Native.Nat.{ℕ, ◌+◌, ◌-◌, ◌<◌}
 use native.Mathlib.Omega.{arith}
@@ -23,25 +23,10 @@ new-left :
     → at c.left_row-2.new.left c.loop-a.a ≡ c.args.next_limit - at c.args.next_from.now c.loop-a.a
 new-left c = c.left_row-2.ensures.each c.loop-a.a (few-rows c)
 
-pub slice_bounds-left_row-end : goal.slice_bounds-left_row-end
-slice_bounds-left_row-end c = refl
-
-pub left_row-requires : goal.left_row-requires
-left_row-requires c = (c.requires.from_len.0, refl)
-
-pub slice_bounds-left_row-end-2 : goal.slice_bounds-left_row-end-2
-slice_bounds-left_row-end-2 c = refl
-
-pub left_row-requires-2 : goal.left_row-requires-2
-left_row-requires-2 c = (c.requires.from_len.2, refl)
-
 pub loop-a-init : goal.loop-a-init
 loop-a-init c =
     let args = c.args in
     (edge_none (at args.from.now) (at args.to.now) (at args.next_from.now) (at args.next_to.now) args.limit args.next_limit args.counts.now, below-zero args.to.now, below-zero args.next_to.now)
-
-pub slice_bounds-renew_row-end : goal.slice_bounds-renew_row-end
-slice_bounds-renew_row-end c = sym c.loop-a.invariant.1.size
 
 pub renew_row-requires : goal.renew_row-requires
 unfolding at
@@ -49,20 +34,11 @@ renew_row-requires c =
     let rows = c.requires.from_len in
     (rows.1, omega (arith, old-left (goal.at.renew_row-requires c).In-loop-a, c.requires.limit_bound.0), rows.4, c.loop-a.invariant.1)
 
-pub slice_bounds-renew_row-end-then-moves : goal.slice_bounds-renew_row-end-then-moves
-slice_bounds-renew_row-end-then-moves c = sym c.loop-a.invariant.2.size
-
 pub renew_row-requires-then-moves : goal.renew_row-requires-then-moves
 unfolding at
 renew_row-requires-then-moves c =
     let rows = c.requires.from_len in
     (rows.3, omega (arith, new-left (goal.at.renew_row-requires-then-moves c).In-loop-a, c.requires.limit_bound.1), rows.5, c.loop-a.invariant.2)
-
-pub slice_bounds-exchange_row-end : goal.slice_bounds-exchange_row-end
-slice_bounds-exchange_row-end c = sym c.renew_row-then-moves.ensures.size
-
-pub slice_bounds-exchange_row-end-then-moves : goal.slice_bounds-exchange_row-end-then-moves
-slice_bounds-exchange_row-end-then-moves c = sym c.renew_row.ensures.size
 
 pub exchange_row-requires : goal.exchange_row-requires
 unfolding at
@@ -108,6 +84,3 @@ loop-a-preserved c =
         | else-moves w ↦ subst (λ (row : List ℕ). More row c.if-moves.next_last) (sym w.more-is) (subst (More _) (sym w.next_last-is) loop.invariant.2)
       ],
     )
-
-pub shape_of-counts : goal.shape_of-counts
-shape_of-counts c = c.loop-a.invariant.0.size

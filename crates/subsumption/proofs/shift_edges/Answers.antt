@@ -51,9 +51,6 @@ loop-j-preserved c =
       shifted.size ∙ loop.invariant.1,
     )
 
-pub shape_of-counts : goal.shape_of-counts
-shape_of-counts c = c.loop-j.invariant.1
-
 pub returns : goal.returns
 unfolding edges_of
 returns c =
