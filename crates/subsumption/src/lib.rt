@@ -70,9 +70,10 @@ fn limit_after<'a>(
     ensures { result ≡ counted (not (subsumes_by from.now to.now a b (edge source sink delay))) (delay + 1) }
 {
     if is_subsumed(from, to, a, b, source, sink, delay) {
-        return 0;
+        0
+    } else {
+        delay as u16 + 1
     }
-    delay as u16 + 1
 }
 
 // What each delay of a row leaves of a limit: nothing if it reaches the limit.
@@ -234,10 +235,8 @@ fn shift_one<'a>(
     let fell_from = lowered(from, source as usize, a, b, &mut next_from);
     let fell_to = lowered(to, sink as usize, b, a, &mut next_to);
     let limit = limit_after(from, to, a, b, source, sink, delay);
-    if limit != 0 {
-        if both_above(most, fell_from, fell_to) {
-            return;
-        }
+    if limit != 0 && both_above(most, fell_from, fell_to) {
+        return;
     }
     shift_edge(
         &from[s..s + WIDTH],
