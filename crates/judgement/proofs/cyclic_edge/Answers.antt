@@ -5,7 +5,7 @@ use Prim.Native.Nat.{ℕ, ◌<◌}
 use native.Mathlib.Numerals.{add-one}
 use native.Mathlib.Omega.{arith}
 use lib.ListN.{length, get_or}
-use borrow.Author.Count.{below_none, below_more}
+use borrow.Author.Count.{below_more}
 use Rattle.model.specs.Compute.{present, least_delay}
 use Rattle.records.specs.Columns.{at}
 use Rattle.reach.specs.Reach.{bit}
@@ -30,10 +30,6 @@ module _ (source sink processor : List ℕ) (ends : (j : ℕ) → j < length sou
 
     sink-small : p ≡ at processor (get_or sink j 0) → j < length source → p < 16
     sink-small is below = subst (λ (k : ℕ). k < 16) (sym is) (small (get_or sink j 0) (sink_below below))
-
-pub loop-j-init : goal.loop-j-init
-loop-j-init c =
-    below_none (NoneBack c.args.source.now c.args.sink.now c.args.processor.now c.args.words.now)
 
 pub processor_of-from-requires : goal.processor_of-from-requires
 processor_of-from-requires c =

@@ -20,26 +20,11 @@ take_steps-requires c = record { sink_len = c.requires.result_sink_len; fit = fi
 pub loop-j-init : goal.loop-j-init
 loop-j-init c = (steps-known c.requires.tasks_in_bounds.2 c.requires.fit_2 c.take_steps.ensures, below_none (λ i. held c.args.source.now c.args.sink.now c.args.delay.now (edges_of c.args.result_source.now c.args.result_sink.now c.args.result_delay.now) c.requires.fit i ≡ true))
 
-pub overflow_mul-at : goal.overflow_mul-at
-overflow_mul-at c = omega (arith, place c.args.source.now c.args.sink.now c.args.delay.now (edges_of c.args.result_source.now c.args.result_sink.now c.args.result_delay.now) c.requires.fit c.loop-j.j c.requires.tasks_in_bounds.2 c.loop-j-test.true)
-
-pub overflow_add-at-in-loop-j : goal.overflow_add-at-in-loop-j
-overflow_add-at-in-loop-j c = omega (arith, place c.args.source.now c.args.sink.now c.args.delay.now (edges_of c.args.result_source.now c.args.result_sink.now c.args.result_delay.now) c.requires.fit c.loop-j.j c.requires.tasks_in_bounds.2 c.loop-j-test.true)
-
-pub offset_bounds-known-at : goal.offset_bounds-known-at
-offset_bounds-known-at c = omega (arith, place c.args.source.now c.args.sink.now c.args.delay.now (edges_of c.args.result_source.now c.args.result_sink.now c.args.result_delay.now) c.requires.fit c.loop-j.j c.requires.tasks_in_bounds.2 c.loop-j-test.true)
-
 pub bounds-known-at : goal.bounds-known-at
 bounds-known-at c = omega (arith, place c.args.source.now c.args.sink.now c.args.delay.now (edges_of c.args.result_source.now c.args.result_sink.now c.args.result_delay.now) c.requires.fit c.loop-j.j c.requires.tasks_in_bounds.2 c.loop-j-test.true, c.loop-j.invariant.0.size)
 
 pub finish_row-done-requires : goal.finish_row-done-requires
 finish_row-done-requires c = (omega (arith, place c.args.source.now c.args.sink.now c.args.delay.now (edges_of c.args.result_source.now c.args.result_sink.now c.args.result_delay.now) c.requires.fit c.loop-j.j c.requires.tasks_in_bounds.2 c.loop-j-test.true), ((edges_of c.args.result_source.now c.args.result_sink.now c.args.result_delay.now), c.loop-j.invariant.0))
-
-pub offset_bounds-known-at-then-most-known : goal.offset_bounds-known-at-then-most-known
-offset_bounds-known-at-then-most-known c = omega (arith, place c.args.source.now c.args.sink.now c.args.delay.now (edges_of c.args.result_source.now c.args.result_sink.now c.args.result_delay.now) c.requires.fit c.loop-j.j c.requires.tasks_in_bounds.2 c.loop-j-test.true)
-
-pub bounds-known-at-then-most-known : goal.bounds-known-at-then-most-known
-bounds-known-at-then-most-known c = omega (arith, place c.args.source.now c.args.sink.now c.args.delay.now (edges_of c.args.result_source.now c.args.result_sink.now c.args.result_delay.now) c.requires.fit c.loop-j.j c.requires.tasks_in_bounds.2 c.loop-j-test.true, (c.finish_row-done.ensures.known (edges_of c.args.result_source.now c.args.result_sink.now c.args.result_delay.now) c.loop-j.invariant.0).size)
 
 pub returns-then-most-known-2 : goal.returns-then-most-known-2
 returns-then-most-known-2 c =
