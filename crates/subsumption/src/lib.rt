@@ -16,6 +16,14 @@ ghost use Rattle.subsumption.specs.Subsumption.{subsumes_by, row_at, Still, Left
 use delays::WIDTH;
 use updates::{join_rows, lowered};
 
+// What an edge is counted by: a row of delays from its source, a row of delays to its sink and a limit. It is not counted by a limit of 0.
+#[derive(Clone, Copy)]
+struct EdgeRows<'a> {
+    from: &'a [u16],
+    to: &'a [u16],
+    limit: u16,
+}
+
 // 1 if a number is below a limit, else 0: by a signed test, for which plain x86-64 has a vector instruction.
 fn below(x: u16, limit: u16) -> u16
     requires { (x ≤ 32767) × (limit ≤ 32767) }
@@ -117,28 +125,23 @@ fn exchange_row<'a>(more: &'a [u16], less: &'a [u16], place: usize, counts: &mut
     }
 }
 
-// Counts an edge by a row of delays from its source, a row of delays to its sink and a limit, in place of the rows and the limit that it was counted by: not
-// yet with a limit of 0 before, no more with a limit of 0 now. The delays to its sink pass the same tests in both rows by limits up to `fell`.
+// Counts an edge by other rows and another limit than it was counted by. The delays to its sink pass the same tests in both rows by limits up to `fell`.
 fn shift_edge<'a>(
-    from: &'a [u16],
-    to: &'a [u16],
-    next_from: &'a [u16],
-    next_to: &'a [u16],
-    limit: u16,
-    next_limit: u16,
+    was: EdgeRows<'a>,
+    next: EdgeRows<'a>,
     fell: u16,
     tasks: usize,
     counts: &mut [u16],
 )
-    requires from_len { (length from.now ≡ 64) × (length to.now ≡ 64) × (length next_from.now ≡ 64) × (length next_to.now ≡ 64) × Small to.now × Small next_to.now }
-    requires limit_bound { (limit ≤ 32767) × (next_limit ≤ 32767) × (tasks ≤ 64) × (tasks * 64 ≤ length counts.old) × SameTests (at to.now) (at next_to.now) fell }
-    requires covered { Covered (at from.now) (at to.now) limit tasks counts.old }
-    ensures { EdgeShifted (at from.now) (at to.now) (at next_from.now) (at next_to.now) limit next_limit tasks counts.old counts.new }
+    requires from_len { (length was.from.now ≡ 64) × (length was.to.now ≡ 64) × (length next.from.now ≡ 64) × (length next.to.now ≡ 64) × Small was.to.now × Small next.to.now }
+    requires limit_bound { (was.limit ≤ 32767) × (next.limit ≤ 32767) × (tasks ≤ 64) × (tasks * 64 ≤ length counts.old) × SameTests (at was.to.now) (at next.to.now) fell }
+    requires covered { Covered (at was.from.now) (at was.to.now) was.limit tasks counts.old }
+    ensures { EdgeShifted (at was.entry.from.now) (at was.entry.to.now) (at next.entry.from.now) (at next.entry.to.now) was.entry.limit next.entry.limit tasks counts.old counts.new }
 {
     let mut old: [u16; 64] = [0; 64];
     let mut new: [u16; 64] = [0; 64];
-    left_row(from, limit, &mut old);
-    left_row(next_from, next_limit, &mut new);
+    left_row(was.from, was.limit, &mut old);
+    left_row(next.from, next.limit, &mut new);
     let mut more: [u16; 64] = [0; 64];
     let mut less: [u16; 64] = [0; 64];
     let mut last = 0;
@@ -147,8 +150,8 @@ fn shift_edge<'a>(
         let before = old[a];
         let after = new[a];
         if moves(before, after, fell) {
-            renew_row(to, last, before, &mut less);
-            renew_row(next_to, next_last, after, &mut more);
+            renew_row(was.to, last, before, &mut less);
+            renew_row(next.to, next_last, after, &mut more);
             last = before;
             next_last = after;
             exchange_row(&more, &less, a * WIDTH, counts);
@@ -172,9 +175,12 @@ fn count_edge<'a>(
 {
     let s = source * WIDTH;
     let t = sink * WIDTH;
-    let before = &from[s..s + WIDTH];
-    let after = &to[t..t + WIDTH];
-    shift_edge(before, after, before, after, 0, limit, limit, tasks, counts);
+    let rows = EdgeRows {
+        from: &from[s..s + WIDTH],
+        to: &to[t..t + WIDTH],
+        limit: 0,
+    };
+    shift_edge(rows, EdgeRows { limit, ..rows }, limit, tasks, counts);
 }
 
 // Counts the edges of a stage, by counts of 0.
@@ -238,17 +244,17 @@ fn shift_one<'a>(
     if limit != 0 && both_above(most, fell_from, fell_to) {
         return;
     }
-    shift_edge(
-        &from[s..s + WIDTH],
-        &to[t..t + WIDTH],
-        &next_from,
-        &next_to,
-        most + 1,
+    let was = EdgeRows {
+        from: &from[s..s + WIDTH],
+        to: &to[t..t + WIDTH],
+        limit: most + 1,
+    };
+    let next = EdgeRows {
+        from: &next_from,
+        to: &next_to,
         limit,
-        fell_to,
-        tasks,
-        counts,
-    );
+    };
+    shift_edge(was, next, fell_to, tasks, counts);
 }
 
 // Counts the edges of a stage anew for the pair (a, b) that is added: by the delays before it, those that it leaves are counted by the delays after it.

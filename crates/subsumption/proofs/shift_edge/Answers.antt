@@ -15,18 +15,18 @@ few-rows c = omega (arith, c.requires.limit_bound.2, c.loop-a-test.true)
 -- what is left for the row that is next
 old-left :
     (c : In-loop-a)
-    → at c.left_row.new.left c.loop-a.a ≡ c.args.limit - at c.args.from.now c.loop-a.a
+    → at c.left_row.new.left c.loop-a.a ≡ c.args.was.limit - at c.args.was.from.now c.loop-a.a
 old-left c = c.left_row.ensures.each c.loop-a.a (few-rows c)
 
 new-left :
     (c : In-loop-a)
-    → at c.left_row-2.new.left c.loop-a.a ≡ c.args.next_limit - at c.args.next_from.now c.loop-a.a
+    → at c.left_row-2.new.left c.loop-a.a ≡ c.args.next.limit - at c.args.next.from.now c.loop-a.a
 new-left c = c.left_row-2.ensures.each c.loop-a.a (few-rows c)
 
 pub loop-a-init : goal.loop-a-init
 loop-a-init c =
     let args = c.args in
-    (edge_none (at args.from.now) (at args.to.now) (at args.next_from.now) (at args.next_to.now) args.limit args.next_limit args.counts.now, below-zero args.to.now, below-zero args.next_to.now)
+    (edge_none (at args.was.from.now) (at args.was.to.now) (at args.next.from.now) (at args.next.to.now) args.was.limit args.next.limit args.counts.now, below-zero args.was.to.now, below-zero args.next.to.now)
 
 pub renew_row-requires : goal.renew_row-requires
 unfolding at
@@ -52,8 +52,8 @@ exchange_row-requires c =
     record {
       more_len = (more.size, less.size, omega (arith, few.3, loop.invariant.0.size, below), omega (arith, few.2, below));
       by_index = λ b l.
-          let covered = edge-covered (at args.from.now) (at args.to.now) (at args.next_from.now) (at args.next_to.now) args.limit args.next_limit loop.invariant.0 c.requires.covered below (old-left (goal.at.exchange_row-requires c).In-loop-a) b l in
-          (below-few args.next_to.now _ more b l, omega (arith, less.each b l, covered.0), covered.1);
+          let covered = edge-covered (at args.was.from.now) (at args.was.to.now) (at args.next.from.now) (at args.next.to.now) args.was.limit args.next.limit loop.invariant.0 c.requires.covered below (old-left (goal.at.exchange_row-requires c).In-loop-a) b l in
+          (below-few args.next.to.now _ more b l, omega (arith, less.each b l, covered.0), covered.1);
     }
 
 pub loop-a-preserved : goal.loop-a-preserved
@@ -63,16 +63,16 @@ loop-a-preserved c =
     let loop = c.loop-a in
     let old = old-left (goal.at.loop-a-preserved c).In-loop-a in
     let new = new-left (goal.at.loop-a-preserved c).In-loop-a in
-    let Next : List ℕ → Type 0 = λ after. EdgeShifted (at args.from.now) (at args.to.now) (at args.next_from.now) (at args.next_to.now) args.limit args.next_limit (loop.a + 1) args.counts.now after in
-    let Less : List ℕ → ℕ → Type 0 = λ row last. BelowRow args.to.now last 64 row in
-    let More : List ℕ → ℕ → Type 0 = λ row last. BelowRow args.next_to.now last 64 row in (
+    let Next : List ℕ → Type 0 = λ after. EdgeShifted (at args.was.from.now) (at args.was.to.now) (at args.next.from.now) (at args.next.to.now) args.was.limit args.next.limit (loop.a + 1) args.counts.now after in
+    let Less : List ℕ → ℕ → Type 0 = λ row last. BelowRow args.was.to.now last 64 row in
+    let More : List ℕ → ℕ → Type 0 = λ row last. BelowRow args.next.to.now last 64 row in (
       elim c.if-moves.branch [
         | then-moves w ↦
             subst Next (sym w.counts-is)
-            (edge_moved (at args.from.now) (at args.to.now) (at args.next_from.now) (at args.next_to.now) args.limit args.next_limit loop.invariant.0 old new (λ b l. w.renew_row.ensures.each b l) (λ b l. w.renew_row-then-moves.ensures.each b l) w.exchange_row.ensures)
+            (edge_moved (at args.was.from.now) (at args.was.to.now) (at args.next.from.now) (at args.next.to.now) args.was.limit args.next.limit loop.invariant.0 old new (λ b l. w.renew_row.ensures.each b l) (λ b l. w.renew_row-then-moves.ensures.each b l) w.exchange_row.ensures)
         | else-moves w ↦
             subst Next (sym w.counts-is)
-            (edge-passed (at args.from.now) (at args.to.now) (at args.next_from.now) (at args.next_to.now) args.limit args.next_limit loop.invariant.0 old new c.requires.limit_bound.4 (c.moves.ensures w.if-moves.false))
+            (edge-passed (at args.was.from.now) (at args.was.to.now) (at args.next.from.now) (at args.next.to.now) args.was.limit args.next.limit loop.invariant.0 old new c.requires.limit_bound.4 (c.moves.ensures w.if-moves.false))
       ],
       elim c.if-moves.branch [
         | then-moves w ↦ subst (λ (row : List ℕ). Less row c.if-moves.last) (sym w.less-is) (subst (Less _) (sym w.last-is) w.renew_row.ensures)
