@@ -16,6 +16,22 @@ ghost use Rattle.subsumption.specs.Subsumption.{subsumes_by, row_at, Still, Left
 use delays::WIDTH;
 use updates::{join_rows, lowered};
 
+// The delays between the tasks of a stage, row by row.
+#[derive(Clone, Copy)]
+struct Delays<'a> {
+    from: &'a [u16],
+    to: &'a [u16],
+    tasks: usize,
+}
+
+// An edge of a stage.
+#[derive(Clone, Copy)]
+struct StageEdge {
+    source: u8,
+    sink: u8,
+    delay: u8,
+}
+
 // What an edge is counted by: a row of delays from its source, a row of delays to its sink and a limit. It is not counted by a limit of 0.
 #[derive(Clone, Copy)]
 struct EdgeRows<'a> {
@@ -65,22 +81,14 @@ pub fn is_subsumed<'a>(
 }
 
 // The limit of an edge when the pair (a, b) is added: 0 if the pair subsumes it.
-fn limit_after<'a>(
-    from: &'a [u16],
-    to: &'a [u16],
-    a: usize,
-    b: usize,
-    source: u8,
-    sink: u8,
-    delay: u8,
-) -> u16
-    requires { (a < 64) × (b < 64) × (source * 64 + a < length from.now) × (sink * 64 + b < length to.now) }
-    ensures { result ≡ counted (not (subsumes_by from.now to.now a b (edge source sink delay))) (delay + 1) }
+fn limit_after<'a>(before: Delays<'a>, a: usize, b: usize, e: StageEdge) -> u16
+    requires { (a < 64) × (b < 64) × (e.source * 64 + a < length before.from.now) × (e.sink * 64 + b < length before.to.now) }
+    ensures { result ≡ counted (not (subsumes_by before.entry.from.now before.entry.to.now a b (edge e.source e.sink e.delay))) (e.delay + 1) }
 {
-    if is_subsumed(from, to, a, b, source, sink, delay) {
+    if is_subsumed(before.from, before.to, a, b, e.source, e.sink, e.delay) {
         0
     } else {
-        delay as u16 + 1
+        e.delay as u16 + 1
     }
 }
 
@@ -160,27 +168,25 @@ fn shift_edge<'a>(
 }
 
 // Counts an edge that was not counted yet, by its limit.
-fn count_edge<'a>(
-    from: &'a [u16],
-    to: &'a [u16],
-    source: usize,
-    sink: usize,
-    limit: u16,
-    tasks: usize,
-    counts: &mut [u16],
-)
-    requires tasks_in_bounds { (tasks * 64 ≤ length from.now) × (tasks * 64 ≤ length to.now) × (tasks * 64 ≤ length counts.old) × Small to.now }
-    requires tasks_bound { (tasks ≤ 64) × (source < tasks) × (sink < tasks) × (limit ≤ 32767) × Covered (row_at from.now source) (row_at to.now sink) 0 tasks counts.old }
-    ensures { EdgeShifted (row_at from.now source) (row_at to.now sink) (row_at from.now source) (row_at to.now sink) 0 limit tasks counts.old counts.new }
+fn count_edge<'a>(delays: Delays<'a>, source: usize, sink: usize, limit: u16, counts: &mut [u16])
+    requires tasks_in_bounds { (delays.tasks * 64 ≤ length delays.from.now) × (delays.tasks * 64 ≤ length delays.to.now) × (delays.tasks * 64 ≤ length counts.old) × Small delays.to.now }
+    requires tasks_bound { (delays.tasks ≤ 64) × (source < delays.tasks) × (sink < delays.tasks) × (limit ≤ 32767) × Covered (row_at delays.from.now source) (row_at delays.to.now sink) 0 delays.tasks counts.old }
+    ensures { EdgeShifted (row_at delays.entry.from.now source) (row_at delays.entry.to.now sink) (row_at delays.entry.from.now source) (row_at delays.entry.to.now sink) 0 limit delays.entry.tasks counts.old counts.new }
 {
     let s = source * WIDTH;
     let t = sink * WIDTH;
     let rows = EdgeRows {
-        from: &from[s..s + WIDTH],
-        to: &to[t..t + WIDTH],
+        from: &delays.from[s..s + WIDTH],
+        to: &delays.to[t..t + WIDTH],
         limit: 0,
     };
-    shift_edge(rows, EdgeRows { limit, ..rows }, limit, tasks, counts);
+    shift_edge(
+        rows,
+        EdgeRows { limit, ..rows },
+        limit,
+        delays.tasks,
+        counts,
+    );
 }
 
 // Counts the edges of a stage, by counts of 0.
@@ -199,54 +205,38 @@ pub fn count_edges<'a>(
     requires small { Small to.now × ((i : ℕ) → at counts.old i ≡ 0) }
     ensures { CountsOf tasks from.now to.now (edges_of source.now sink.now delay.now) counts.new }
 {
+    let delays = Delays { from, to, tasks };
     for j in 0..source.len() {
-        count_edge(
-            from,
-            to,
-            source[j] as usize,
-            sink[j] as usize,
-            delay[j] as u16 + 1,
-            tasks,
-            counts,
-        );
+        let limit = delay[j] as u16 + 1;
+        count_edge(delays, source[j] as usize, sink[j] as usize, limit, counts);
     }
 }
 
 // Counts one edge anew for the pair (a, b) that is added, by the delays before it and its source's and sink's rows of those after it: no more if the pair
 // subsumes it. It is passed over if no delay that matters to it falls: none does where the ways to the pair are longer than the edge's delay.
-fn shift_one<'a>(
-    from: &'a [u16],
-    to: &'a [u16],
-    tasks: usize,
-    a: usize,
-    b: usize,
-    source: u8,
-    sink: u8,
-    delay: u8,
-    counts: &mut [u16],
-)
-    requires tasks_in_bounds { (tasks * 64 ≤ length from.now) × (tasks * 64 ≤ length to.now) × (tasks * 64 ≤ length counts.old) × Small from.now × Small to.now }
-    requires tasks_bound { (tasks ≤ 64) × (a < tasks) × (b < tasks) × (source < tasks) × (sink < tasks) }
-    requires covered { Covered (row_at from.now source) (row_at to.now sink) (delay + 1) tasks counts.old }
-    ensures { EdgeShifted (row_at from.now source) (row_at to.now sink) (lower_at a b from.now source) (lower_at b a to.now sink) (delay + 1) (counted (not (subsumes_by from.now to.now a b (edge source sink delay))) (delay + 1)) tasks counts.old counts.new }
+fn shift_one<'a>(before: Delays<'a>, a: usize, b: usize, e: StageEdge, counts: &mut [u16])
+    requires tasks_in_bounds { (before.tasks * 64 ≤ length before.from.now) × (before.tasks * 64 ≤ length before.to.now) × (before.tasks * 64 ≤ length counts.old) × Small before.from.now × Small before.to.now }
+    requires tasks_bound { (before.tasks ≤ 64) × (a < before.tasks) × (b < before.tasks) × (e.source < before.tasks) × (e.sink < before.tasks) }
+    requires covered { Covered (row_at before.from.now e.source) (row_at before.to.now e.sink) (e.delay + 1) before.tasks counts.old }
+    ensures { EdgeShifted (row_at before.entry.from.now e.source) (row_at before.entry.to.now e.sink) (lower_at a b before.entry.from.now e.source) (lower_at b a before.entry.to.now e.sink) (e.delay + 1) (counted (not (subsumes_by before.entry.from.now before.entry.to.now a b (edge e.source e.sink e.delay))) (e.delay + 1)) before.entry.tasks counts.old counts.new }
 {
-    let most = delay as u16;
-    let s = source as usize * WIDTH;
-    let t = sink as usize * WIDTH;
-    if both_above(most, from[s + a], to[t + b]) {
+    let most = e.delay as u16;
+    let s = e.source as usize * WIDTH;
+    let t = e.sink as usize * WIDTH;
+    if both_above(most, before.from[s + a], before.to[t + b]) {
         return;
     }
     let mut next_from: [u16; 64] = [0; 64];
     let mut next_to: [u16; 64] = [0; 64];
-    let fell_from = lowered(from, source as usize, a, b, &mut next_from);
-    let fell_to = lowered(to, sink as usize, b, a, &mut next_to);
-    let limit = limit_after(from, to, a, b, source, sink, delay);
+    let fell_from = lowered(before.from, e.source as usize, a, b, &mut next_from);
+    let fell_to = lowered(before.to, e.sink as usize, b, a, &mut next_to);
+    let limit = limit_after(before, a, b, e);
     if limit != 0 && both_above(most, fell_from, fell_to) {
         return;
     }
     let was = EdgeRows {
-        from: &from[s..s + WIDTH],
-        to: &to[t..t + WIDTH],
+        from: &before.from[s..s + WIDTH],
+        to: &before.to[t..t + WIDTH],
         limit: most + 1,
     };
     let next = EdgeRows {
@@ -254,7 +244,7 @@ fn shift_one<'a>(
         to: &next_to,
         limit,
     };
-    shift_edge(was, next, fell_to, tasks, counts);
+    shift_edge(was, next, fell_to, before.tasks, counts);
 }
 
 // Counts the edges of a stage anew for the pair (a, b) that is added: by the delays before it, those that it leaves are counted by the delays after it.
@@ -262,21 +252,24 @@ fn shift_edges<'a>(
     source: &'a [u8],
     sink: &'a [u8],
     delay: &'a [u8],
-    from: &'a [u16],
-    to: &'a [u16],
-    tasks: usize,
+    before: Delays<'a>,
     a: usize,
     b: usize,
     counts: &mut [u16],
 )
     requires sink_len { (length sink.now ≡ length source.now) × (length delay.now ≡ length source.now) × (length source.now ≤ 256) }
-    requires tasks_in_bounds { (tasks * 64 ≤ length from.now) × (tasks * 64 ≤ length to.now) × Small from.now × Small to.now }
-    requires tasks_bound { (tasks ≤ 64) × (a < tasks) × (b < tasks) × Ends tasks (edges_of source.now sink.now delay.now) }
-    requires counts_of { CountsOf tasks from.now to.now (edges_of source.now sink.now delay.now) counts.old }
-    ensures { (from' to' : List ℕ) → Lowers a b tasks from.now from' → Lowers b a tasks to.now to' → CountsOf tasks from' to' (keep (λ e. not (subsumes_by from.now to.now a b e)) (edges_of source.now sink.now delay.now)) counts.new }
+    requires tasks_in_bounds { (before.tasks * 64 ≤ length before.from.now) × (before.tasks * 64 ≤ length before.to.now) × Small before.from.now × Small before.to.now }
+    requires tasks_bound { (before.tasks ≤ 64) × (a < before.tasks) × (b < before.tasks) × Ends before.tasks (edges_of source.now sink.now delay.now) }
+    requires counts_of { CountsOf before.tasks before.from.now before.to.now (edges_of source.now sink.now delay.now) counts.old }
+    ensures { (from' to' : List ℕ) → Lowers a b before.entry.tasks before.entry.from.now from' → Lowers b a before.entry.tasks before.entry.to.now to' → CountsOf before.entry.tasks from' to' (keep (λ e. not (subsumes_by before.entry.from.now before.entry.to.now a b e)) (edges_of source.now sink.now delay.now)) counts.new }
 {
     for j in 0..source.len() {
-        shift_one(from, to, tasks, a, b, source[j], sink[j], delay[j], counts);
+        let e = StageEdge {
+            source: source[j],
+            sink: sink[j],
+            delay: delay[j],
+        };
+        shift_one(before, a, b, e, counts);
     }
 }
 
@@ -300,8 +293,9 @@ pub fn add_pair<'a, 'b>(
     ensures delays { RowsJoined a b tasks from.old from.new × RowsJoined b a tasks to.old to.new }
     ensures counts { CountsOf tasks from.new to.new (with_pair (keep (λ e. not (subsumes_by from.old to.old a b e)) (edges_of source.now sink.now delay.now)) a b) counts.new }
 {
-    shift_edges(source, sink, delay, from, to, tasks, a, b, counts);
+    let before = Delays { from, to, tasks };
+    shift_edges(source, sink, delay, before, a, b, counts);
     join_rows(from, tasks, a, b);
     join_rows(to, tasks, b, a);
-    count_edge(from, to, a, b, 1, tasks, counts);
+    count_edge(Delays { from, to, tasks }, a, b, 1, counts);
 }

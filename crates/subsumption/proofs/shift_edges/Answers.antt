@@ -16,7 +16,7 @@ pub loop-j-init : goal.loop-j-init
 unfolding edges_of
 loop-j-init c =
     let args = c.args in
-    (λ from' to' rows columns. changed-none args.source.now args.sink.now args.delay.now args.tasks args.from.now args.to.now from' to' (λ e. not (subsumes_by args.from.now args.to.now args.a args.b e)) (length args.source.now) c.requires.counts_of, refl)
+    (λ from' to' rows columns. changed-none args.source.now args.sink.now args.delay.now args.before.tasks args.before.from.now args.before.to.now from' to' (λ e. not (subsumes_by args.before.from.now args.before.to.now args.a args.b e)) (length args.source.now) c.requires.counts_of, refl)
 
 pub shift_one-requires : goal.shift_one-requires
 unfolding held_edge at
@@ -27,14 +27,14 @@ shift_one-requires c =
     let rows = c.requires.tasks_in_bounds in
     let few = c.requires.tasks_bound in
     let ends = few.3 (held_edge args.source.now args.sink.now args.delay.now loop.j) (edge_in_lem args.source.now args.sink.now args.delay.now loop.j below) in
-    let from' = lowered-rows args.a args.b args.tasks args.from.now in
-    let to' = lowered-rows args.b args.a args.tasks args.to.now in
+    let from' = lowered-rows args.a args.b args.before.tasks args.before.from.now in
+    let to' = lowered-rows args.b args.a args.before.tasks args.before.to.now in
     let changed =
-    loop.invariant.0 from' to' (lowers-rows args.a args.b args.tasks args.from.now) (lowers-rows args.b args.a args.tasks args.to.now) in
+    loop.invariant.0 from' to' (lowers-rows args.a args.b args.before.tasks args.before.from.now) (lowers-rows args.b args.a args.before.tasks args.before.to.now) in
     record {
       tasks_in_bounds = (rows.0, rows.1, changed.size, rows.2, rows.3);
       tasks_bound = (few.0, few.1, few.2, ends.0, ends.1);
-      covered = changed-covered args.source.now args.sink.now args.delay.now args.tasks args.from.now args.to.now from' to' (λ e. not (subsumes_by args.from.now args.to.now args.a args.b e)) (length args.source.now) changed c.requires.sink_len.2 below;
+      covered = changed-covered args.source.now args.sink.now args.delay.now args.before.tasks args.before.from.now args.before.to.now from' to' (λ e. not (subsumes_by args.before.from.now args.before.to.now args.a args.b e)) (length args.source.now) changed c.requires.sink_len.2 below;
     }
 
 pub loop-j-preserved : goal.loop-j-preserved
@@ -46,7 +46,7 @@ loop-j-preserved c =
     let ends = few.3 (held_edge args.source.now args.sink.now args.delay.now loop.j) (edge_in_lem args.source.now args.sink.now args.delay.now loop.j c.loop-j-test.true) in
     let shifted = c.shift_one.ensures in (
       λ from' to' rows columns.
-          changed-more args.source.now args.sink.now args.delay.now args.tasks args.from.now args.to.now from' to' (λ e. not (subsumes_by args.from.now args.to.now args.a args.b e)) (length args.source.now) (loop.invariant.0 from' to' rows columns)
+          changed-more args.source.now args.sink.now args.delay.now args.before.tasks args.before.from.now args.before.to.now from' to' (λ e. not (subsumes_by args.before.from.now args.before.to.now args.a args.b e)) (length args.source.now) (loop.invariant.0 from' to' rows columns)
           (edge-as few.0 refl (λ x l. refl) (λ x l. refl) (λ x l. sym (rows _ x ends.0 l)) (λ x l. sym (columns _ x ends.1 l)) shifted),
       shifted.size ∙ loop.invariant.1,
     )
@@ -57,5 +57,5 @@ returns c =
     let args = c.args in
     let whole : c.loop-j.j ≡ length args.source.now = omega arith in
     λ from' to' rows columns.
-    changed-all args.source.now args.sink.now args.delay.now args.tasks args.from.now args.to.now from' to' (λ e. not (subsumes_by args.from.now args.to.now args.a args.b e)) (length args.source.now)
-    (subst (λ (j : ℕ). Changed args.source.now args.sink.now args.delay.now args.tasks args.from.now args.to.now from' to' (λ e. not (subsumes_by args.from.now args.to.now args.a args.b e)) (length args.source.now) j c.loop-j.counts) whole (c.loop-j.invariant.0 from' to' rows columns))
+    changed-all args.source.now args.sink.now args.delay.now args.before.tasks args.before.from.now args.before.to.now from' to' (λ e. not (subsumes_by args.before.from.now args.before.to.now args.a args.b e)) (length args.source.now)
+    (subst (λ (j : ℕ). Changed args.source.now args.sink.now args.delay.now args.before.tasks args.before.from.now args.before.to.now from' to' (λ e. not (subsumes_by args.before.from.now args.before.to.now args.a args.b e)) (length args.source.now) j c.loop-j.counts) whole (c.loop-j.invariant.0 from' to' rows columns))

@@ -11,5 +11,5 @@ use Rattle.subsumption.proofs.shift_edges.Given as goal
 
 abbrev pub invariant-loop-j : goal.invariant-loop-j
 invariant-loop-j l =
-    ((from' to' : List ℕ) → Lowers l.a l.b l.tasks l.from from' → Lowers l.b l.a l.tasks l.to to' →
-    Changed l.source l.sink l.delay l.tasks l.from l.to from' to' (λ e. not (subsumes_by l.from l.to l.a l.b e)) (length l.source) l.j l.counts) × (length l.counts ≡ length l.initial.counts)
+    ((from' to' : List ℕ) → Lowers l.a l.b l.before.tasks l.before.from.now from' → Lowers l.b l.a l.before.tasks l.before.to.now to' →
+    Changed l.source l.sink l.delay l.before.tasks l.before.from.now l.before.to.now from' to' (λ e. not (subsumes_by l.before.from.now l.before.to.now l.a l.b e)) (length l.source) l.j l.counts) × (length l.counts ≡ length l.initial.counts)
