@@ -29,4 +29,4 @@ unfolding at
 loop-b-preserved c =
     let args = c.args in
     let loop = c.loop-b in
-    row_more (λ b. at args.less.now b) (λ b. at args.more.now b) args.place _ loop.invariant (omega arith) (omega (arith, still (goal.at.loop-b-preserved c).In-loop-b, c.requires.by_index loop.b (omega arith)))
+    row_more _ loop.invariant (omega arith) (omega (arith, still (goal.at.loop-b-preserved c).In-loop-b, c.requires.by_index loop.b (omega arith)))

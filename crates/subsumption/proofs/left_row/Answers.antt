@@ -6,4 +6,4 @@ use Rattle.subsumption.proofs.left_row.Goals as goal
 
 pub loop-a-preserved : goal.loop-a-preserved
 unfolding at
-loop-a-preserved c = left-more c.args.delays.now c.args.limit c.saturating_sub.result c.loop-a.invariant (omega arith) c.saturating_sub.ensures
+loop-a-preserved c = left-more c.saturating_sub.result c.loop-a.invariant (omega arith) c.saturating_sub.ensures

@@ -10,4 +10,4 @@ below-requires c = (omega (arith, c.requires.3 c.loop-b.b), omega (arith, c.requ
 
 pub loop-b-preserved : goal.loop-b-preserved
 unfolding at
-loop-b-preserved c = below_more c.args.delays.now c.args.limit c.below.result c.loop-b.invariant (omega arith) c.below.ensures
+loop-b-preserved c = below_more c.below.result c.loop-b.invariant (omega arith) c.below.ensures

@@ -26,7 +26,7 @@ new-left c = c.left_row-2.ensures.each c.loop-a.a (few-rows c)
 pub loop-a-init : goal.loop-a-init
 loop-a-init c =
     let args = c.args in
-    (edge_none (at args.was.from.now) (at args.was.to.now) (at args.next.from.now) (at args.next.to.now) args.was.limit args.next.limit args.counts.now, below-zero args.was.to.now, below-zero args.next.to.now)
+    (edge_none args.counts.now, below-zero args.was.to.now, below-zero args.next.to.now)
 
 pub renew_row-requires : goal.renew_row-requires
 unfolding at
@@ -52,8 +52,8 @@ exchange_row-requires c =
     record {
       more_len = (more.size, less.size, omega (arith, few.3, loop.invariant.0.size, below), omega (arith, few.2, below));
       by_index = λ b l.
-          let covered = edge-covered (at args.was.from.now) (at args.was.to.now) (at args.next.from.now) (at args.next.to.now) args.was.limit args.next.limit loop.invariant.0 c.requires.covered below (old-left (goal.at.exchange_row-requires c).In-loop-a) b l in
-          (below-few args.next.to.now _ more b l, omega (arith, less.each b l, covered.0), covered.1);
+          let covered = edge-covered loop.invariant.0 c.requires.covered below (old-left (goal.at.exchange_row-requires c).In-loop-a) b l in
+          (below-few more b l, omega (arith, less.each b l, covered.0), covered.1);
     }
 
 pub loop-a-preserved : goal.loop-a-preserved
@@ -69,10 +69,10 @@ loop-a-preserved c =
       elim c.if-moves.branch [
         | then-moves w ↦
             subst Next (sym w.counts-is)
-            (edge_moved (at args.was.from.now) (at args.was.to.now) (at args.next.from.now) (at args.next.to.now) args.was.limit args.next.limit loop.invariant.0 old new (λ b l. w.renew_row.ensures.each b l) (λ b l. w.renew_row-then-moves.ensures.each b l) w.exchange_row.ensures)
+            (edge_moved loop.invariant.0 old new (λ b l. w.renew_row.ensures.each b l) (λ b l. w.renew_row-then-moves.ensures.each b l) w.exchange_row.ensures)
         | else-moves w ↦
             subst Next (sym w.counts-is)
-            (edge-passed (at args.was.from.now) (at args.was.to.now) (at args.next.from.now) (at args.next.to.now) args.was.limit args.next.limit loop.invariant.0 old new c.requires.limit_bound.4 (c.moves.ensures w.if-moves.false))
+            (edge-passed loop.invariant.0 old new c.requires.limit_bound.4 (c.moves.ensures w.if-moves.false))
       ],
       elim c.if-moves.branch [
         | then-moves w ↦ subst (λ (row : List ℕ). Less row c.if-moves.last) (sym w.less-is) (subst (Less _) (sym w.last-is) w.renew_row.ensures)
