@@ -1,13 +1,10 @@
 -- `subsumption::count_edges` meets its contract: after j steps the first j edges are counted.
-use mathlib.Core.Path.{◌≡◌, refl, subst, ◌∙◌}
-use Prim.Native.Nat.{ℕ}
+use mathlib.Core.Path.{◌≡◌, refl, ◌∙◌}
 use native.Mathlib.Omega.{arith}
 use lib.ListN.{length}
-use Rattle.model.specs.Lists.{tabulate}
 use Rattle.records.specs.Columns.{at, held_edge, edges_of}
 use Rattle.records.proofs.Edges.{edge_in_lem}
 use Rattle.records.proofs.Fill.{length-tabulate}
-use Rattle.subsumption.specs.Subsumption.{CountsOf}
 use Rattle.subsumption.proofs.Totals.{counts-covered, first-none, first_counted}
 use Rattle.subsumption.proofs.count_edges.Goals as goal
 
@@ -49,4 +46,4 @@ unfolding edges_of
 returns c =
     let args = c.args in
     let whole : c.loop-j.j ≡ length args.source.now = omega arith in
-    subst (λ (j : ℕ). CountsOf args.tasks args.from.now args.to.now (tabulate j (held_edge args.source.now args.sink.now args.delay.now)) c.loop-j.counts) whole c.loop-j.invariant.0
+    rw whole at c.loop-j.invariant.0

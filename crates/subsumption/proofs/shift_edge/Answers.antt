@@ -1,10 +1,8 @@
 -- `subsumption::shift_edge` meets its contract: after a steps the edge is counted anew for the pairs out of the first a tasks.
-use mathlib.Core.Path.{◌≡◌, sym, subst}
-use mathlib.Core.List.{List}
-use Prim.Native.Nat.{ℕ, ◌+◌, ◌-◌, ◌<◌}
+use mathlib.Core.Path.{◌≡◌}
+use Prim.Native.Nat.{◌-◌, ◌<◌}
 use native.Mathlib.Omega.{arith}
 use Rattle.records.specs.Columns.{at}
-use Rattle.subsumption.specs.Subsumption.{BelowRow, EdgeShifted}
 use Rattle.subsumption.proofs.Shifts.{below-few, below-zero, edge_none, edge-covered, edge_moved, edge-passed}
 use Rattle.subsumption.proofs.shift_edge.Goals as goal
 use Rattle.subsumption.proofs.shift_edge.Goals.{then-moves, else-moves, In-loop-a}
@@ -59,28 +57,21 @@ exchange_row-requires c =
 pub loop-a-preserved : goal.loop-a-preserved
 unfolding at
 loop-a-preserved c =
-    let args = c.args in
     let loop = c.loop-a in
     let old = old-left (goal.at.loop-a-preserved c).In-loop-a in
-    let new = new-left (goal.at.loop-a-preserved c).In-loop-a in
-    let Next : List ℕ → Type 0 = λ after. EdgeShifted (at args.was.from.now) (at args.was.to.now) (at args.next.from.now) (at args.next.to.now) args.was.limit args.next.limit (loop.a + 1) args.counts.now after in
-    let Less : List ℕ → ℕ → Type 0 = λ row last. BelowRow args.was.to.now last 64 row in
-    let More : List ℕ → ℕ → Type 0 = λ row last. BelowRow args.next.to.now last 64 row in (
+    let new = new-left (goal.at.loop-a-preserved c).In-loop-a in (
       elim c.if-moves.branch [
         | then-moves w ↦
-            subst Next (sym w.counts-is)
+            rw w.counts-is
             (edge_moved loop.invariant.0 old new (λ b l. w.renew_row.ensures.each b l) (λ b l. w.renew_row-then-moves.ensures.each b l) w.exchange_row.ensures)
-        | else-moves w ↦
-            subst Next (sym w.counts-is)
-            (edge-passed loop.invariant.0 old new c.requires.limit_bound.4 (c.moves.ensures w.if-moves.false))
+        | else-moves w ↦ rw w.counts-is (edge-passed loop.invariant.0 old new c.requires.limit_bound.4 (c.moves.ensures w.if-moves.false))
       ],
       elim c.if-moves.branch [
-        | then-moves w ↦ subst (λ (row : List ℕ). Less row c.if-moves.last) (sym w.less-is) (subst (Less _) (sym w.last-is) w.renew_row.ensures)
-        | else-moves w ↦ subst (λ (row : List ℕ). Less row c.if-moves.last) (sym w.less-is) (subst (Less _) (sym w.last-is) loop.invariant.1)
+        | then-moves w ↦ rw (w.less-is, w.last-is) w.renew_row.ensures
+        | else-moves w ↦ rw (w.less-is, w.last-is) loop.invariant.1
       ],
       elim c.if-moves.branch [
-        | then-moves w ↦
-            subst (λ (row : List ℕ). More row c.if-moves.next_last) (sym w.more-is) (subst (More _) (sym w.next_last-is) w.renew_row-then-moves.ensures)
-        | else-moves w ↦ subst (λ (row : List ℕ). More row c.if-moves.next_last) (sym w.more-is) (subst (More _) (sym w.next_last-is) loop.invariant.2)
+        | then-moves w ↦ rw (w.more-is, w.next_last-is) w.renew_row-then-moves.ensures
+        | else-moves w ↦ rw (w.more-is, w.next_last-is) loop.invariant.2
       ],
     )

@@ -1,14 +1,13 @@
 -- `subsumption::shift_edges` meets its contract: after j steps the first j edges are counted by the delays as they fall, whatever lists hold them.
-use mathlib.Core.Path.{◌≡◌, refl, sym, subst, ◌∙◌}
+use mathlib.Core.Path.{◌≡◌, refl, sym, ◌∙◌}
 use mathlib.Core.Bool.{not}
-use Prim.Native.Nat.{ℕ}
 use native.Mathlib.Omega.{arith}
 use lib.ListN.{length}
 use Rattle.records.specs.Columns.{at, held_edge, edges_of}
 use Rattle.records.proofs.Edges.{edge_in_lem}
 use Rattle.subsumption.specs.Subsumption.{subsumes_by}
 use Rattle.subsumption.proofs.Shifts.{edge-as}
-use Rattle.subsumption.proofs.Totals.{Changed, changed-none, changed-covered, changed-more, changed-all}
+use Rattle.subsumption.proofs.Totals.{changed-none, changed-covered, changed-more, changed-all}
 use Rattle.subsumption.proofs.Fallen.{lowered-rows, lowers-rows}
 use Rattle.subsumption.proofs.shift_edges.Goals as goal
 
@@ -58,4 +57,4 @@ returns c =
     let whole : c.loop-j.j ≡ length args.source.now = omega arith in
     λ from' to' rows columns.
     changed-all args.source.now args.sink.now args.delay.now args.before.tasks args.before.from.now args.before.to.now from' to' (λ e. not (subsumes_by args.before.from.now args.before.to.now args.a args.b e)) (length args.source.now)
-    (subst (λ (j : ℕ). Changed args.source.now args.sink.now args.delay.now args.before.tasks args.before.from.now args.before.to.now from' to' (λ e. not (subsumes_by args.before.from.now args.before.to.now args.a args.b e)) (length args.source.now) j c.loop-j.counts) whole (c.loop-j.invariant.0 from' to' rows columns))
+    (rw whole at (c.loop-j.invariant.0 from' to' rows columns))
