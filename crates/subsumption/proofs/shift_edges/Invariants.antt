@@ -1,5 +1,4 @@
 -- `subsumption::shift_edges` meets its contract: after j steps the first j edges are counted by the delays as they fall, whatever lists hold them.
-use mathlib.Core.Path.{◌≡◌}
 use mathlib.Core.Bool.{not}
 use mathlib.Core.List.{List}
 use Prim.Native.Nat.{ℕ}
@@ -12,4 +11,4 @@ use Rattle.subsumption.proofs.shift_edges.Given as goal
 abbrev pub invariant-loop-j : goal.invariant-loop-j
 invariant-loop-j l =
     ((from' to' : List ℕ) → Lowers l.a l.b l.before.tasks l.before.from.now from' → Lowers l.b l.a l.before.tasks l.before.to.now to' →
-    Changed l.source l.sink l.delay l.before.tasks l.before.from.now l.before.to.now from' to' (λ e. not (subsumes_by l.before.from.now l.before.to.now l.a l.b e)) (length l.source) l.j l.counts) × (length l.counts ≡ length l.initial.counts)
+    Changed l.source l.sink l.delay l.before.tasks l.before.from.now l.before.to.now from' to' (λ e. not (subsumes_by l.before.from.now l.before.to.now l.a l.b e)) (length l.source) l.j l.counts)
