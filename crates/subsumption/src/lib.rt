@@ -146,12 +146,12 @@ fn shift_edge<'a>(
     requires covered { Covered (at was.from.now) (at was.to.now) was.limit tasks counts.old }
     ensures { EdgeShifted (at was.entry.from.now) (at was.entry.to.now) (at next.entry.from.now) (at next.entry.to.now) was.entry.limit next.entry.limit tasks counts.old counts.new }
 {
-    let mut old: [u16; 64] = [0; 64];
-    let mut new: [u16; 64] = [0; 64];
+    let mut old = [0; WIDTH];
+    let mut new = [0; WIDTH];
     left_row(was.from, was.limit, &mut old);
     left_row(next.from, next.limit, &mut new);
-    let mut more: [u16; 64] = [0; 64];
-    let mut less: [u16; 64] = [0; 64];
+    let mut more = [0; WIDTH];
+    let mut less = [0; WIDTH];
     let mut last = 0;
     let mut next_last = 0;
     for a in 0..tasks {
@@ -226,8 +226,8 @@ fn shift_one<'a>(before: Delays<'a>, a: usize, b: usize, e: StageEdge, counts: &
     if both_above(most, before.from[s + a], before.to[t + b]) {
         return;
     }
-    let mut next_from: [u16; 64] = [0; 64];
-    let mut next_to: [u16; 64] = [0; 64];
+    let mut next_from = [0; WIDTH];
+    let mut next_to = [0; WIDTH];
     let fell_from = lowered(before.from, e.source as usize, a, b, &mut next_from);
     let fell_to = lowered(before.to, e.sink as usize, b, a, &mut next_to);
     let limit = limit_after(before, a, b, e);
