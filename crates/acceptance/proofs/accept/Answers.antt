@@ -30,8 +30,8 @@ slice_bounds-check_schedule-end-3 c = (lists-within c.args.graph.now c.in_ok-rea
 pub slice_bounds-check_schedule-end-4 : goal.slice_bounds-check_schedule-end-4
 slice_bounds-check_schedule-end-4 c = (lists-within c.args.graph.now c.in_ok-reading.ensures).time
 
-pub check_schedule-latency-requires : goal.check_schedule-latency-requires
-check_schedule-latency-requires c =
+pub check_schedule-requires : goal.check_schedule-requires
+check_schedule-requires c =
     let s = c.args.graph.now in
     let read = c.in_ok-reading.ensures in
     let f = read-held s read in
