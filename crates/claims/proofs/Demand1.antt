@@ -3,13 +3,18 @@
 use mathlib.Core.Path.{◌≡◌, refl, ap, sym, ◌∙◌, subst}
 use mathlib.Core.Logic.{◌≢◌}
 use mathlib.Core.List.{List}
+use Rattle.std.proofs.Common.{Result}
 use Prim.Native.Nat.{ℕ}
 use native.Mathlib.Omega.{arith}
 use lib.IntN.{pos}
 use lib.ListN.{length}
 use Rattle.files.specs.declared.Refusal.{Refusal}
 use Rattle.files.specs.Files.{graph_refusal, proposal_refusal}
-use Rattle.readings.specs.Working.{graph_reading, proposal_reading}
+use Rattle.files.specs.declared.Fault.{Fault}
+use Rattle.files.specs.Refusals.{refusal_in}
+use Rattle.readings.specs.declared.GraphReading.{GraphReading}
+use Rattle.readings.specs.declared.ProposalReading.{ProposalReading}
+use Rattle.readings.specs.Working.{GraphRead, ProposalRead}
 use Rattle.readings.proofs.Held.{graph-refusal-given, proposal-refusal-given}
 use Rattle.acceptance.specs.declared.Outcome.{Outcome}
 use Rattle.acceptance.specs.Acceptance.{acceptance_refusal}
@@ -76,15 +81,16 @@ unfolding redundant_of
 redundant-obeys s = obeys-plainly (graph_checks s) (acceptance_refusal s) (graph-follows s) (graph-nowhere s)
 
 -- the readings, whose refusals are those of their files
-read-graph-obeys : (s : List ℕ) → Obeys (graph_file_checks s) (outcome (graph_reading s).refusal)
-read-graph-obeys s =
-    subst (λ (r : Refusal). Obeys (graph_file_checks s) (outcome r)) (sym (graph-refusal-given s))
+read-graph-obeys : (s : List ℕ) (r : Result GraphReading Fault) → GraphRead s r → Obeys (graph_file_checks s) (outcome (refusal_in r))
+read-graph-obeys s r read =
+    subst (λ (q : Refusal). Obeys (graph_file_checks s) (outcome q)) (sym (graph-refusal-given s r read))
     (obeys-plainly (graph_file_checks s) (graph_refusal s) (graph-file-follows s)
     (λ none. ap (λ (r : Refusal). r.place) (graph-file-plain s none)))
 
-read-proposal-obeys : (n : ℕ) (p : List ℕ) → Obeys (proposal_file_checks n p) (outcome (proposal_reading n p).refusal)
-read-proposal-obeys n p =
-    subst (λ (r : Refusal). Obeys (proposal_file_checks n p) (outcome r)) (sym (proposal-refusal-given n p))
+read-proposal-obeys :
+    (n : ℕ) (p : List ℕ) (r : Result ProposalReading Fault) → ProposalRead n p r → Obeys (proposal_file_checks n p) (outcome (refusal_in r))
+read-proposal-obeys n p r read =
+    subst (λ (q : Refusal). Obeys (proposal_file_checks n p) (outcome q)) (sym (proposal-refusal-given n p r read))
     (obeys-plainly (proposal_file_checks n p) (proposal_refusal n p) (proposal-file-follows {k = n} {n = n} refl p) (λ none. ap (λ (r : Refusal). r.place) (proposal-file-plain n p none)))
 
 -- the outcome's number is the refusal's

@@ -5,7 +5,7 @@
 --
 -- That every call finishes and touches only what it was lent is proved of each function by the language, and no call asks anything of its caller. The
 -- rest is said here: document 01's conditions ("Who caused a refusal"), its "Sequence", and, for all inputs, what each call answers by them.
-use Rattle.std.specs.Prelude.{◌≡◌, ◌⊎◌, ◌≢◌, List, [], ◌∷◌, ◌++◌, ℕ, zero, suc, ◌*◌, ◌≤◌, ◌<◌, pos, negsuc, ◌-ℤ◌, length}
+use Rattle.std.specs.Prelude.{◌≡◌, ◌⊎◌, ◌≢◌, List, [], ◌∷◌, ◌++◌, ℕ, zero, suc, ◌*◌, ◌≤◌, ◌<◌, pos, negsuc, ◌-ℤ◌, length, Result}
 use Rattle.model.specs.Tasks.{Task, Edge, ◌∈◌, processor_of}
 use Rattle.model.specs.Graph.{Graph, edges, time_of}
 use Rattle.model.specs.Paths.{Path, ZeroCycle, OnCycle, OrderHeld, Latency}
@@ -14,7 +14,11 @@ use Rattle.bits.specs.Bits.{bit_at}
 use Rattle.layout.specs.declared.EdgeRecord.{EdgeRecord}
 use Rattle.layout.specs.Layout.{graph_header, proposal_header, bytes_for}
 use Rattle.files.specs.Files.{task_count, edge_count, graph_bits, proposal_bits, graph_of, proposal_of, edge_in}
-use Rattle.readings.specs.Working.{graph_reading, proposal_reading}
+use Rattle.files.specs.declared.Fault.{Fault}
+use Rattle.files.specs.Refusals.{refusal_in}
+use Rattle.readings.specs.declared.GraphReading.{GraphReading}
+use Rattle.readings.specs.declared.ProposalReading.{ProposalReading}
+use Rattle.readings.specs.Working.{GraphRead, ProposalRead}
 use Rattle.acceptance.specs.declared.Outcome.{Outcome}
 use Rattle.acceptance.specs.Outcomes.{outcome}
 use Rattle.figures.specs.Figures.{figures_of}
@@ -201,13 +205,14 @@ pub record LateTold (result : Graph) (o : Outcome) : Type 0 where
   pub margin_is : o.margin ≡ pos result.bound -ℤ pos o.latency
   pub negative : (k : ℕ) × (o.margin ≡ negsuc k)
 
--- For all bytes s of a graph file, all bytes p of a proposal file, all numbers and all lent lists. By their contracts the calls answer `graph_reading s`,
--- `proposal_reading n p`, `figures_of s`, `redundant_of s`, `outcome (delays_refusal s room)`, `outcome (timetable_refusal s turns room)`, `plan_answer_of s room` and
--- `verdict_of s p`, where room is the length of the lent list, and leave `delays_after`, `timetable_after` and `plan_after` in it.
+-- For all bytes s of a graph file, all bytes p of a proposal file, all numbers and all lent lists. By their contracts the readings give what `GraphRead s` and
+-- `ProposalRead n p` say, and the calls answer `figures_of s`, `redundant_of s`, `outcome (delays_refusal s room)`, `outcome (timetable_refusal s turns room)`,
+-- `plan_answer_of s room` and `verdict_of s p`, where room is the length of the lent list, and leave `delays_after`, `timetable_after` and `plan_after` in it.
 pub record Demand1 : Type 0 where
   -- the readings: 1 to 8 alone, of a proposal beside any number n of tasks; they tell number and place, and `outcome` puts 0 for latency and margin
-  pub read_graph : (s : List ℕ) → Obeys (graph_file_checks s) (outcome (graph_reading s).refusal)
-  pub read_proposal : (n : ℕ) (p : List ℕ) → Obeys (proposal_file_checks n p) (outcome (proposal_reading n p).refusal)
+  pub read_graph : (s : List ℕ) (r : Result GraphReading Fault) → GraphRead s r → Obeys (graph_file_checks s) (outcome (refusal_in r))
+  pub read_proposal :
+      (n : ℕ) (p : List ℕ) (r : Result ProposalReading Fault) → ProposalRead n p r → Obeys (proposal_file_checks n p) (outcome (refusal_in r))
   -- figures, and redundant set: a refused graph has no figures and no marks
   pub figures : (s : List ℕ) → Obeys (graph_checks s) (figures_of s).outcome
   pub figures_refused :
