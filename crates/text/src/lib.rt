@@ -24,7 +24,8 @@ pub fn put_word(out: &mut [u8], at: usize, word: &[u8]) -> usize
     end
 }
 
-// The digits of a number.
+// The digits of a number. By hand: tried, `write!` into a fixed buffer that is a `fmt::Write`. After `Ok` the text was proved to be `decimal n`, but std
+// never promises `Ok`, and says nothing of the buffer after `Err`, so no caller could promise its bytes.
 pub fn put_number(out: &mut [u8], at: usize, n: u32) -> usize
     requires { at + length (decimal n) ≤ length out.old }
     ensures { Appended at (decimal n) out.old out.new result }
