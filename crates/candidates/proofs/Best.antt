@@ -1,20 +1,16 @@
 -- The best pair so far: pairs are looked at by source and then by sink, and the next one takes the place of the best if it is worth more.
 use mathlib.Core.Path.{◌≡◌, refl, sym, ap, subst}
 use mathlib.Core.Logic.{◌⊎◌, inl, inr}
+use Rattle.std.specs.Prelude.{Option, None, Some}
 use Prim.Native.Nat.{ℕ, zero, suc, ◌+◌, ◌≤◌, ◌<◌}
 use native.Mathlib.Nat.{not-suc-le-zero}
 use native.Mathlib.Numerals.{add-one}
 use native.Mathlib.Omega.{arith}
 use Rattle.model.proofs.Basics.{below_suc}
 use Rattle.candidates.specs.declared.Pair.{Pair}
-use Rattle.candidates.specs.Candidates.{BestPair}
-use Rattle.candidates.specs.Searches.{Earlier, BestBefore}
+use Rattle.candidates.specs.Searches.{Earlier, BestBefore, BestSoFar, gain_of}
 
 -- ── Which pairs come before ──
-
-none-earlier : {c d : ℕ} → Earlier c d 0 0 → ⊥
-none-earlier (inl l) = not-suc-le-zero l
-none-earlier (inr h) = not-suc-le-zero h.1
 
 -- one pair more
 earlier_more : {c d a b : ℕ} → Earlier c d a b → Earlier c d a (suc b)
@@ -43,17 +39,6 @@ earlier-row {c} {d} {a} {n} k (inl l) = go (below_suc l)
 earlier-row k (inr h) = absurd (not-suc-le-zero h.1)
 
 -- ── The best of them ──
-
--- no pair looked at
-pub best_none : (n : ℕ) (worth : ℕ → ℕ → ℕ) {gain source sink : ℕ} → gain < 2 → BestBefore n worth 0 0 gain source sink
-best_none n worth none = record {
-  most = λ c d l earlier. absurd (none-earlier earlier);
-  source_below = λ two. absurd (omega arith);
-  sink_below = λ two. absurd (omega arith);
-  worth_is = λ two. absurd (omega arith);
-  before = λ two. absurd (omega arith);
-  first = λ two. absurd (omega arith);
-}
 
 module _ {n : ℕ} {worth : ℕ → ℕ → ℕ} {a gain source sink : ℕ} where
   -- the next pair is worth no more
@@ -100,6 +85,11 @@ module _ {n : ℕ} {worth : ℕ → ℕ → ℕ} {a gain source sink : ℕ} wher
       alone c d h (inl earlier) same = absurd (omega (arith, best.most c d h earlier))
       alone c d h (inr q) same = inr (sym q.0, omega (arith, q.1))
 
+  taken :
+      {b : ℕ} → BestBefore n worth a b gain source sink → a < n → b < n → {more : ℕ} → worth a b ≡ more → gain < more → BestBefore n worth a (b + 1) more a b
+  taken {b} best l k {more} is above =
+      rw add-one (subst (λ (g : ℕ). BestBefore n worth a (suc b) g a b) is (best-taken best l k (omega arith)))
+
   -- all pairs out of a are looked at
   pub best-row : BestBefore n worth a n gain source sink → BestBefore n worth (suc a) 0 gain source sink
   best-row best = record {
@@ -122,33 +112,22 @@ module _ {n : ℕ} {worth : ℕ → ℕ → ℕ} {a gain source sink : ℕ} wher
 
 -- ── As the code holds it ──
 
-abbrev pub BestUp : ℕ → (ℕ → ℕ → ℕ) → ℕ → ℕ → Pair → Type 0
-BestUp n worth a b best = BestBefore n worth a b best.gain best.source best.sink
+module _ (n : ℕ) (worth : ℕ → ℕ → ℕ) (a : ℕ) where
+  pub so-far-passed : (b : ℕ) (best : Option Pair) → BestSoFar n worth a b best → worth a b ≤ gain_of best → BestSoFar n worth a (b + 1) best
+  so-far-passed b None so_far less = rw add-one (best-passed so_far less)
+  so-far-passed b (Some pair) so_far less = (so_far.0, rw add-one (best-passed so_far.1 less))
 
-module _ {n : ℕ} {worth : ℕ → ℕ → ℕ} {a b : ℕ} {best best' : Pair} (so_far : BestUp n worth a b best) where
-  pub pair-passed : worth a b ≤ best.gain → best' ≡ best → BestUp n worth a (b + 1) best'
-  pair-passed less kept =
-      subst (λ (p : Pair). BestUp n worth a (b + 1) p) (sym kept)
-      (subst (λ (d : ℕ). BestUp n worth a d best) (sym (add-one b)) (best-passed so_far less))
+  pub so-far-taken :
+      (b : ℕ) (best : Option Pair) → BestSoFar n worth a b best → a < n → b < n → {gain : ℕ} → worth a b ≡ gain → gain_of best < gain
+      → BestSoFar n worth a (b + 1) (Some (record { gain = gain; source = a; sink = b }))
+  so-far-taken b None so_far l k {gain} is more = (more, taken so_far l k is more)
+  so-far-taken b (Some pair) so_far l k {gain} is more = (omega (arith, so_far.0), taken so_far.1 l k is more)
 
-  pub pair-taken :
-      {gain : ℕ} → a < n → b < n → worth a b ≡ gain → best.gain < gain → best' ≡ record { gain = gain; source = a; sink = b }
-      → BestUp n worth a (b + 1) best'
-  pair-taken {gain} l k is more new =
-      subst (λ (p : Pair). BestUp n worth a (b + 1) p) (sym new)
-      (subst (λ (d : ℕ). BestBefore n worth a d gain a b) (sym (add-one b))
-      (subst (λ (g : ℕ). BestBefore n worth a (suc b) g a b) is (best-taken so_far l k (omega arith))))
+  pub so-far-row : (best : Option Pair) → BestSoFar n worth a n best → BestSoFar n worth (a + 1) 0 best
+  so-far-row None so_far = rw add-one (best-row so_far)
+  so-far-row (Some pair) so_far = (so_far.0, rw add-one (best-row so_far.1))
 
-pub row_done : {n : ℕ} {worth : ℕ → ℕ → ℕ} {a : ℕ} {best best' : Pair} → BestUp n worth (suc a) 0 best → best' ≡ best → BestUp n worth (a + 1) 0 best'
-row_done {n} {worth} {a} {best} {best'} done same =
-    subst (λ (k : ℕ). BestUp n worth k 0 best') (sym (add-one a)) (subst (λ (p : Pair). BestUp n worth (suc a) 0 p) (sym same) done)
-
--- all pairs are looked at
-pub best-of-all : {n : ℕ} {worth : ℕ → ℕ → ℕ} {gain source sink : ℕ} → BestBefore n worth n 0 gain source sink → BestPair n worth gain source sink
-best-of-all best = record {
-  most = λ c d l k two. best.most c d k (inl l);
-  source_below = best.source_below;
-  sink_below = best.sink_below;
-  worth_is = best.worth_is;
-  first = λ two c d l k. best.first two c d k (inl l);
-}
+  pub so-far-skipped :
+      (best : Option Pair) → BestSoFar n worth a 0 best → ((d : ℕ) → d < n → worth a d ≤ gain_of best) → BestSoFar n worth (a + 1) 0 best
+  so-far-skipped None so_far less = rw add-one (best-skipped so_far less)
+  so-far-skipped (Some pair) so_far less = (so_far.0, rw add-one (best-skipped so_far.1 less))

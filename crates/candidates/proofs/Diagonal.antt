@@ -28,9 +28,6 @@ pub record Zeroed (n v : ℕ) (first table : List ℕ) : Type 0 where
   pub itself : (c : ℕ) → c < v → get_or table (c * n + c) 0 ≡ 0
   pub others : (c d : ℕ) → c < n → d < n → (c ≢ d) ⊎ (v ≤ c) → get_or table (c * n + d) 0 ≡ get_or first (c * n + d) 0
 
-pub zeroed-none : (n : ℕ) (first : List ℕ) → Zeroed n 0 first first
-zeroed-none n first = record { size = refl; itself = λ c l. absurd (not-suc-le-zero l); others = λ c d l k which. refl }
-
 pub zeroed-more :
     {n v : ℕ} {first table : List ℕ} → Zeroed n v first table → v < n → v * n + v < length table → Zeroed n (v + 1) first (set table (v * n + v) 0)
 zeroed-more {n} {v} {first} {table} done below inside = record {

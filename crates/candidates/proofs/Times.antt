@@ -21,9 +21,6 @@ unfolding at
 zeros-small b l = omega (arith, get_or-replicate {A = ℕ} 64 b 0 0 l)
 
 module _ (times : List ℕ) (power : ℕ) where
-  pub units-none : (row : List ℕ) → length row ≡ 64 → SmallRow row → UnitRow times power 0 row
-  units-none row size small = record { size = size; small = small; each = λ b l. absurd (not-suc-le-zero l) }
-
   pub units-more :
       {k : ℕ} {row : List ℕ} (v : ℕ) → UnitRow times power k row → k < 64 → v ≡ units_of power (at times k) → UnitRow times power (k + 1) (set row k v)
   unfolding at

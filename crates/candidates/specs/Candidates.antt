@@ -22,3 +22,7 @@ pub record BestPair (n : ℕ) (worth : ℕ → ℕ → ℕ) (gain a b : ℕ) : T
   pub sink_below : 2 ≤ gain → b < n
   pub worth_is : 2 ≤ gain → worth a b ≡ gain
   pub first : 2 ≤ gain → (c d : ℕ) → c < n → d < n → worth c d ≡ gain → (a < c) ⊎ ((a ≡ c) × (b ≤ d))
+
+-- no pair of numbers below n is worth two
+abbrev pub NoPair : ℕ → (ℕ → ℕ → ℕ) → Type 0
+NoPair n worth = (c d : ℕ) → c < n → d < n → worth c d < 2

@@ -1,7 +1,8 @@
 -- Only for contracts inside: what the search for the best pair holds on its way. Pairs are looked at by source and then by sink.
-use Rattle.std.specs.Prelude.{◌≡◌, ◌⊎◌, ◌&&◌, List, ℕ, ◌+◌, ◌/◌, ◌^◌, ◌≤◌, ◌<◌, min, length, eqb, leb}
+use Rattle.std.specs.Prelude.{◌≡◌, ◌⊎◌, ◌&&◌, List, Option, None, Some, ℕ, ◌+◌, ◌/◌, ◌^◌, ◌≤◌, ◌<◌, min, length, eqb, leb}
 use Rattle.model.specs.Lists.{counted}
 use Rattle.records.specs.Columns.{at}
+use Rattle.candidates.specs.declared.Pair.{Pair}
 
 -- what the pair of a task and b is worth, by the delays back to this task and the counts for each sink
 unfoldable pub worth_counted : List ℕ → ℕ → List ℕ → List ℕ → ℕ → ℕ
@@ -20,6 +21,16 @@ pub record BestBefore (n : ℕ) (worth : ℕ → ℕ → ℕ) (a b gain source s
   pub worth_is : 2 ≤ gain → worth source sink ≡ gain
   pub before : 2 ≤ gain → Earlier source sink a b
   pub first : 2 ≤ gain → (c d : ℕ) → d < n → Earlier c d a b → worth c d ≡ gain → (source < c) ⊎ ((source ≡ c) × (sink ≤ d))
+
+-- what a better pair than the best so far is worth more than: one edge is not enough
+abbrev pub gain_of : Option Pair → ℕ
+gain_of None = 1
+gain_of (Some pair) = pair.gain
+
+-- the best of the pairs of numbers below n before (a, b), if one of them is worth two or more; else none
+abbrev pub BestSoFar : ℕ → (ℕ → ℕ → ℕ) → ℕ → ℕ → Option Pair → Type 0
+BestSoFar n worth a b None = BestBefore n worth a b 1 0 0
+BestSoFar n worth a b (Some pair) = (2 ≤ pair.gain) × BestBefore n worth a b pair.gain pair.source pair.sink
 
 -- a time in units of a power of two, cut at 32,767
 abbrev pub units_of : ℕ → ℕ → ℕ

@@ -1,15 +1,15 @@
 // The best candidate of a step of the plan: the pair of tasks that subsumes most edges.
 #![tactic(auto)]
 
-ghost use Rattle.std.specs.Prelude.{◌≡◌, ◌⊎◌, false, List, ℕ, ◌+◌, ◌*◌, ◌≤◌, ◌<◌, min, length};
+ghost use Rattle.std.specs.Prelude.{◌≡◌, ◌⊎◌, false, List, ℕ, ◌+◌, ◌*◌, ◌≤◌, ◌<◌, min, length, MatchOption};
 ghost use Rattle.model.specs.Tasks.{Edge};
 ghost use Rattle.delays.specs.Delays.{delay_table};
-ghost use Rattle.candidates.specs.Candidates.{count_table, worth_in, BestPair};
-ghost use Rattle.candidates.specs.Searches.{worth_counted, BestBefore, units_of, SmallRow, UnitRow, RowFew};
+ghost use Rattle.candidates.specs.Candidates.{count_table, worth_in, BestPair, NoPair};
+ghost use Rattle.candidates.specs.Searches.{worth_counted, gain_of, BestSoFar, units_of, SmallRow, UnitRow, RowFew};
 
 use delays::{FAR, WIDTH};
 
-// A pair of tasks and how many edges it subsumes; below 2 if there is no pair to take.
+// A pair of tasks and how many edges it subsumes.
 #[derive(Clone, Copy)]
 pub struct Pair {
     pub gain: u32,
@@ -18,17 +18,15 @@ pub struct Pair {
 }
 
 // Where numbers are cut: the largest that fits a signed test.
-const LAST: u16 = 32767;
+const LAST: u32 = 32767;
 
 // Sets the entry from each task to itself to 0.
 pub fn zero_diagonal(table: &mut [u16], tasks: usize)
     requires { (tasks ≤ 64) × (length table.old ≡ tasks * tasks) }
     ensures { (es : List Edge) → table.old ≡ delay_table tasks es → table.new ≡ count_table tasks es }
 {
-    let mut v = 0;
-    while v < tasks {
+    for v in 0..tasks {
         table[v * tasks + v] = 0;
-        v += 1;
     }
 }
 
@@ -36,10 +34,7 @@ pub fn zero_diagonal(table: &mut [u16], tasks: usize)
 fn capped(x: u32) -> u16
     ensures { result ≡ min x 32767 }
 {
-    if x < LAST as u32 {
-        return x as u16;
-    }
-    LAST
+    x.min(LAST) as u16
 }
 
 // A time in units of a power of two, cut at 32,767.
@@ -55,10 +50,8 @@ fn unit_row(times: &[u32], power: u32, row: &mut [u16])
     requires { (power < 32) × (length times.now ≤ 64) × (length row.old ≡ 64) × SmallRow row.old }
     ensures { UnitRow times.now power (length times.now) row.new }
 {
-    let mut b = 0;
-    while b < times.len() {
-        row[b] = units(times[b], power);
-        b += 1;
+    for (b, time) in times.iter().enumerate() {
+        row[b] = units(*time, power);
     }
 }
 
@@ -69,14 +62,11 @@ fn exceeds(count: u16, least: u16, back: u16, end: u16, latest: u16) -> u16
     ensures few { result ≤ 1 }
     ensures none { result ≡ 0 → back ≡ 16383 → end ≤ latest → count ≤ least }
 {
-    if back == FAR {
-        if (end as i16) <= (latest as i16) {
-            if least < count {
-                return 1;
-            }
-        }
+    if back == FAR && (end as i16) <= (latest as i16) && least < count {
+        1
+    } else {
+        0
     }
-    0
 }
 
 // How many counts of a row exceed a number, without a path back and in time by times in units.
@@ -93,10 +83,8 @@ fn exceeding<'a>(
     ensures { result ≡ 0 → RowFew counts.now to.now start least end latest.now 64 }
 {
     let mut many = 0;
-    let mut b = 0;
-    while b < WIDTH {
+    for b in 0..WIDTH {
         many += exceeds(counts[start + b], least, to[start + b], end, latest[b]);
-        b += 1;
     }
     many
 }
@@ -115,13 +103,20 @@ fn may_exceed<'a>(
     requires small_row { SmallRow fine.now × SmallRow coarse.now }
     ensures { result ≡ false → RowFew counts.now to.now start least (units_of 0 end) fine.now 64 ⊎ RowFew counts.now to.now start least (units_of 8 end) coarse.now 64 }
 {
-    if end <= LAST as u32 {
+    if end <= LAST {
         return exceeding(counts, to, start, least, units(end, 0), fine) != 0;
     }
     exceeding(counts, to, start, least, units(end, 8), coarse) != 0
 }
 
-// The best of the pairs out of task `a`, by the counts for their sinks, if it is better than the best before; `back` has the
+// What a better pair has to be worth more than. One edge is not enough.
+fn least_gain(best: Option<Pair>) -> u32
+    ensures { result ≡ gain_of best }
+{
+    best.map_or(1, |pair| pair.gain)
+}
+
+// The best of the pairs out of task `a`, by the counts for their sinks, if it is better than the best before, else that one; `back` has the
 // delays back to `a`.
 fn best_counted<'a>(
     counts: &'a [u16],
@@ -129,57 +124,46 @@ fn best_counted<'a>(
     end: u32,
     latest: &'a [u32],
     a: usize,
-    before: Pair,
-) -> Pair
+    before: Option<Pair>,
+) -> Option<Pair>
     requires { (length back.now ≤ 64) × (length counts.now ≡ 64) × (length latest.now ≡ length back.now) × (a < length back.now) }
-    ensures { (worth : ℕ → ℕ → ℕ) → ((b : ℕ) → b < length back.now → worth a b ≡ worth_counted back.now end latest.now counts.now b) → BestBefore (length back.now) worth a 0 before.gain before.source before.sink → BestBefore (length back.now) worth a (length back.now) result.gain result.source result.sink }
+    ensures { (worth : ℕ → ℕ → ℕ) → ((b : ℕ) → b < length back.now → worth a b ≡ worth_counted back.now end latest.now counts.now b) → BestSoFar (length back.now) worth a 0 before → BestSoFar (length back.now) worth a (length back.now) result }
 {
     let mut best = before;
-    let mut b = 0;
-    while b < back.len() {
-        let gain = counts[b] as u32;
-        if best.gain < gain {
-            if back[b] == FAR {
-                if end <= latest[b] {
-                    best = Pair {
-                        gain,
-                        source: a as u32,
-                        sink: b as u32,
-                    };
-                }
-            }
+    for b in 0..back.len() {
+        let gain = u32::from(counts[b]);
+        if least_gain(best) < gain && back[b] == FAR && end <= latest[b] {
+            best = Some(Pair {
+                gain,
+                source: a as u32,
+                sink: b as u32,
+            });
         }
-        b += 1;
     }
     best
 }
 
 // The pair that subsumes most edges, by the counts of all pairs, of those without a path back whose source ends by the time its sink has to
-// start: the first by source and then by sink. `to[a * 64 + b]` is the delay from b to a. Rows that cannot have a better pair are passed over.
+// start: the first by source and then by sink; none if no such pair subsumes two. `to[a * 64 + b]` is the delay from b to a. Rows that cannot have a
+// better pair are passed over.
 pub fn best_pair<'a>(
     counts: &'a [u16],
     to: &'a [u16],
     end: &'a [u32],
     latest: &'a [u32],
     tasks: usize,
-) -> Pair
+) -> Option<Pair>
     requires { (tasks ≤ 64) × (tasks * 64 ≤ length counts.now) × (tasks * 64 ≤ length to.now) × (length end.now ≡ tasks) × (length latest.now ≡ tasks) }
-    ensures { BestPair tasks (worth_in counts.now to.now end.now latest.now) result.gain result.source result.sink }
+    ensures { let worth = worth_in counts.now to.now end.now latest.now in MatchOption result (NoPair tasks worth) (λ pair. (2 ≤ pair.gain) × BestPair tasks worth pair.gain pair.source pair.sink) }
 {
-    let mut fine: [u16; 64] = [0; 64];
-    let mut coarse: [u16; 64] = [0; 64];
+    let mut fine = [0; WIDTH];
+    let mut coarse = [0; WIDTH];
     unit_row(latest, 0, &mut fine);
     unit_row(latest, 8, &mut coarse);
-    // One edge is not enough.
-    let mut best = Pair {
-        gain: 1,
-        source: 0,
-        sink: 0,
-    };
-    let mut a = 0;
-    while a < tasks {
+    let mut best = None;
+    for a in 0..tasks {
         let start = a * WIDTH;
-        let least = capped(best.gain);
+        let least = capped(least_gain(best));
         if may_exceed(counts, to, start, least, end[a], &fine, &coarse) {
             best = best_counted(
                 &counts[start..start + WIDTH],
@@ -190,7 +174,6 @@ pub fn best_pair<'a>(
                 best,
             );
         }
-        a += 1;
     }
     best
 }

@@ -30,25 +30,20 @@ fn keep_needed<'a>(
     requires ends { Ends tasks (edges_of source.now sink.now delay.now) }
     ensures { (es : List Edge) → Fit tasks es → table.now ≡ delay_table tasks es → HeldFront 256 result.count result.source result.sink result.delay (needed tasks es (mark_at marks) (edges_of source.now sink.now delay.now)) }
 {
-    let mut sources: [u8; 256] = [0; 256];
-    let mut sinks: [u8; 256] = [0; 256];
-    let mut delays: [u8; 256] = [0; 256];
+    let mut sources = [0; 256];
+    let mut sinks = [0; 256];
+    let mut delays = [0; 256];
     let mut kept = 0;
-    let mut j = 0;
-    while j < source.len() {
+    for j in 0..source.len() {
         let s = source[j];
         let t = sink[j];
-        if !is_marked(marks, j as u32) {
-            if !has_path(table, tasks, t as usize, s as usize) {
-                store(s, t, delay[j], kept, &mut sources, &mut sinks, &mut delays);
-                kept += 1;
-            }
+        if !is_marked(marks, j as u32) && !has_path(table, tasks, usize::from(t), usize::from(s)) {
+            store(s, t, delay[j], kept, &mut sources, &mut sinks, &mut delays);
+            kept += 1;
         }
-        j += 1;
     }
-    let count = kept as u32;
     StageEdges {
-        count,
+        count: kept as u32,
         source: sources,
         sink: sinks,
         delay: delays,

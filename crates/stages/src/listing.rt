@@ -11,14 +11,11 @@ pub fn fill(list: &mut [EdgeRecord], stage: StageEdges)
     requires { (stage.count ≤ length list.old) × (stage.count ≤ 256) }
     ensures { list.new ≡ written_into list.old (edges_of (take stage.count stage.source) (take stage.count stage.sink) (take stage.count stage.delay)) }
 {
-    let count = stage.count as usize;
-    let mut j = 0;
-    while j < count {
+    for j in 0..stage.count as usize {
         list[j] = EdgeRecord {
             source: stage.source[j],
             sink: stage.sink[j],
             delay: stage.delay[j],
         };
-        j += 1;
     }
 }

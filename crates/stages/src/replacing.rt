@@ -28,8 +28,7 @@ fn keep_others<'a, 'b>(
     ensures { HeldFront 256 result source.new sink.new delay.new (keep (λ e. not (subsumes_by from.now to.now a b e)) (edges_of (take count source.old) (take count sink.old) (take count delay.old))) }
 {
     let mut kept = 0;
-    let mut j = 0;
-    while j < count {
+    for j in 0..count {
         let s = source[j];
         let t = sink[j];
         let d = delay[j];
@@ -37,7 +36,6 @@ fn keep_others<'a, 'b>(
             store(s, t, d, kept, source, sink, delay);
             kept += 1;
         }
-        j += 1;
     }
     kept
 }

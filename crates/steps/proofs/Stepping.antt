@@ -8,7 +8,7 @@ use Prim.Native.Nat.{ℕ, ◌+◌, ◌-◌, ◌*◌, ◌≤◌, ◌<◌}
 use native.Mathlib.Nat.{sub-zero}
 use native.Mathlib.Omega.{arith}
 use lib.Dec.{leb}
-use lib.ListN.{length, take, length-take}
+use lib.ListN.{length, take}
 use Rattle.model.specs.Lists.{keep}
 use Rattle.model.specs.Tasks.{Edge, ◌∈◌, Ends}
 use Rattle.model.specs.Graph.{Graph, count}
@@ -17,7 +17,7 @@ use Rattle.records.specs.Columns.{edges_of, at}
 use Rattle.subsumption.specs.Subsumption.{subsumes_by, CountsOf}
 use Rattle.subsumption.proofs.Totals.{keep-equal}
 use Rattle.updates.specs.Updates.{RowsJoined}
-use Rattle.candidates.specs.Candidates.{worth_in, BestPair}
+use Rattle.candidates.specs.Candidates.{worth_in, BestPair, NoPair}
 use Rattle.results.specs.Fronts.{HeldFront}
 use Rattle.results.proofs.Fronts.{held-edges}
 use Rattle.prepared.specs.Ready.{Ready}
@@ -42,9 +42,6 @@ module _
           omega (arith, sizes.1, here.as_many),
         )
 
-    pub delays-long : (tasks * 64 ≤ length from) × (tasks * 64 ≤ length to)
-    delays-long = (omega (arith, here.ready.from_size, here.as_many), omega (arith, here.ready.to_size, here.as_many))
-
     -- ── The stage, as it is lent ──
 
     abbrev pub lent : List Edge
@@ -52,22 +49,6 @@ module _
 
     lent_is : lent ≡ list
     lent_is = (λ i. edges_of (take (sub-zero many i) source) (take (sub-zero many i) sink) (take (sub-zero many i) delay)) ∙ held-edges here.held
-
-    pub lent-within : (many ≤ length source) × (many ≤ length sink) × (many ≤ length delay)
-    lent-within =
-        let front = here.held in
-        let most : many ≤ 256 = omega (arith, front.sources.as_many, front.sources.column.as_many, length-take many source, front.sources.room) in
-        (omega (arith, most, front.sources.room), omega (arith, most, front.sinks.room), omega (arith, most, front.delays.room))
-
-    pub lent-lists :
-        (length (take (many - 0) sink) ≡ length (take (many - 0) source)) × (length (take (many - 0) delay) ≡ length (take (many - 0) source)) ×
-        (length (take (many - 0) source) ≤ 256)
-    lent-lists =
-        let front = here.held in (
-          omega (arith, length-take (many - 0) sink, length-take (many - 0) source, front.sinks.room, front.sources.room),
-          omega (arith, length-take (many - 0) delay, length-take (many - 0) source, front.delays.room, front.sources.room),
-          omega (arith, length-take (many - 0) source, front.sources.room),
-        )
 
     list-ends : Ends tasks list
     list-ends = subst (λ (n : ℕ). Ends n list) (sym here.as_many) here.staged.formed.ends
@@ -82,13 +63,14 @@ module _
 
     -- ── The best pair ──
 
+    pub none_left : NoPair tasks (worth_in counts to end latest) → step g list ≡ none
+    none_left below =
+        best_none g list here.staged.graph here.staged.formed here.staged.accepted here.ready here.timed
+        (subst (λ (n : ℕ). NoPair n (worth_in counts to end latest)) here.as_many below)
+
     module _ {m a b : ℕ} (best : BestPair tasks (worth_in counts to end latest) m a b) where
       best-is : BestPair (count g) (worth_in counts to end latest) m a b
       best-is = subst (λ (n : ℕ). BestPair n (worth_in counts to end latest) m a b) here.as_many best
-
-      pub none_left : m < 2 → step g list ≡ none
-      none_left =
-          best_none g list here.staged.graph here.staged.formed here.staged.accepted here.ready here.timed best-is
 
       module _ (two : 2 ≤ m) where
         pub found : step g list ≡ some (replaced g list a b)
@@ -122,15 +104,6 @@ module _
 
           same_left : keep test' list ≡ keep test list
           same_left = keep-equal test' test list same_test
-
-          pub replace-sizes : (tasks ≤ 64) × (tasks * 64 ≤ length from') × (tasks * 64 ≤ length to') × (a < tasks) × (b < tasks)
-          replace-sizes = (
-            few,
-            omega (arith, rows.size, delays-long.0),
-            omega (arith, columns.size, delays-long.1),
-            best.source_below two,
-            best.sink_below two,
-          )
 
           pub replace-given : (list' : List Edge) × HeldFront 256 many source sink delay list' × Ends tasks list' × (length (keep test' list') < 256)
           unfolding test

@@ -37,7 +37,7 @@ use Rattle.latest.specs.Latest.{earliest_ends, InTimeFrom}
 use Rattle.subsumption.specs.Subsumption.{subsumes_by, CountsOf}
 use Rattle.subsumption.proofs.Totals.{keep-equal}
 use Rattle.updates.specs.Updates.{RowsJoined}
-use Rattle.candidates.specs.Candidates.{worth_in, BestPair}
+use Rattle.candidates.specs.Candidates.{worth_in, BestPair, NoPair}
 use Rattle.judgement.proofs.Tested.{result-fit}
 use Rattle.prepared.specs.Ready.{cut, Ready}
 use Rattle.present.specs.Present.{Timed}
@@ -239,6 +239,9 @@ module _ (g : Graph) (list : List Edge) (graph : AcceptedGraph g) (formed : Well
 
     -- ── The pair that is worth most ──
 
+    pub best_none : NoPair (count g) (worth_in counts to end latest) → step g list ≡ none
+    best_none below = step-none g list (λ c d lc ld. subst (λ (w : ℕ). w < 2) (worth-by c d lc ld) (below c d lc ld))
+
     module _ {m a b : ℕ} (best : BestPair (count g) (worth_in counts to end latest) m a b) where
       pub best-taken : 2 ≤ m → step g list ≡ some (replaced g list a b)
       best-taken two =
@@ -248,19 +251,6 @@ module _ (g : Graph) (list : List Edge) (graph : AcceptedGraph g) (formed : Well
           (λ c d lc ld h.
           subst (λ (w : ℕ). w ≤ m) (worth-by c d lc ld) (best.most c d lc ld (subst (λ (w : ℕ). 2 ≤ w) (sym (worth-by c d lc ld)) h)))
           (λ c d lc ld q. best.first two c d lc ld (worth-by c d lc ld ∙ q))
-
-      pub best_none : m < 2 → step g list ≡ none
-      best_none few = step-none g list below
-        where
-          below : (c d : ℕ) → c < count g → d < count g → worth g list c d < 2
-          below c d lc ld = go (order 2 (worth g list c d))
-            where
-              go : (2 ≤ worth g list c d) ⊎ (worth g list c d < 2) → worth g list c d < 2
-              go (inl h) =
-                  let same = worth-by c d lc ld in
-                  let most = best.most c d lc ld (omega arith) in
-                  absurd (omega arith)
-              go (inr h) = h
 
       -- there is room for the pair, since it subsumes two edges
       pub best-room : 2 ≤ m → length (keep (λ e. not (subsumes_by from to a b e)) list) < 256

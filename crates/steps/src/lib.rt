@@ -12,10 +12,9 @@ use present::{Precedence, next_times};
 use stages::replace;
 use subsumption::add_pair;
 
-// What a step gives: whether a candidate was taken, which one, and how many edges the stage has after it.
+// What a step took: the candidate's source and sink, and how many edges the stage has after it.
 #[derive(Clone, Copy)]
-pub struct StepAnswer {
-    pub taken: bool,
+pub struct StepTaken {
     pub source: usize,
     pub sink: usize,
     pub count: usize,
@@ -29,7 +28,8 @@ pub struct LastStage {
     pub latency: u32,
 }
 
-// One step from a stage of an accepted graph, by its delays, counts and times; stage, delays and counts are the next one's then, if a candidate was taken.
+// One step from a stage of an accepted graph, by its delays, counts and times: if a candidate is taken, stage, delays and counts are the next one's then;
+// none if no candidate subsumes two edges.
 pub fn step<'a, 'b>(
     tasks: usize,
     count: usize,
@@ -41,21 +41,13 @@ pub fn step<'a, 'b>(
     counts: &'b mut [u16],
     end: &'a [u32],
     latest: &'a [u32],
-) -> StepAnswer
+) -> Option<StepTaken>
     requires { (g : Graph) × (list : List Edge) × Here g list tasks count source.old sink.old delay.old from.old to.old counts.old end.now latest.now }
-    ensures { (g : Graph) (list : List Edge) → Here g list tasks count source.old sink.old delay.old from.old to.old counts.old end.now latest.now → Stepped g list result source.new sink.new delay.new from.new to.new counts.new }
+    ensures { (g : Graph) (list : List Edge) → Here g list tasks count source.old sink.old delay.old from.old to.old counts.old end.now latest.now → Stepped g list count result source.new sink.new delay.new from.new to.new counts.new }
 {
-    let pair = best_pair(counts, to, end, latest, tasks);
+    let pair = best_pair(counts, to, end, latest, tasks)?;
     let a = pair.source as usize;
     let b = pair.sink as usize;
-    if pair.gain < 2 {
-        return StepAnswer {
-            taken: false,
-            source: a,
-            sink: b,
-            count,
-        };
-    }
     add_pair(
         &source[0..count],
         &sink[0..count],
@@ -69,12 +61,11 @@ pub fn step<'a, 'b>(
     );
     // The delays to the pair's source and from its sink are as before.
     let left = replace(count, from, to, tasks, a, b, source, sink, delay);
-    StepAnswer {
-        taken: true,
+    Some(StepTaken {
         source: a,
         sink: b,
         count: left,
-    }
+    })
 }
 
 // Follows the steps of the plan from its first stage: the lists hold the last stage then.
@@ -98,18 +89,13 @@ pub fn follow_steps<'a, 'b>(
     let output = first_order.output;
     let mut order = first_order;
     let mut count = first;
-    let mut steps: u32 = 0;
-    let mut going = true;
-    while going {
-        let next = step(
-            tasks, count, source, sink, delay, from, to, counts, end, latest,
-        );
-        going = next.taken;
-        count = next.count;
-        if going {
-            order = next_times(time, next.source, next.sink, order, end, latest);
-            steps += 1;
-        }
+    let mut steps = 0;
+    while let Some(taken) = step(
+        tasks, count, source, sink, delay, from, to, counts, end, latest,
+    ) {
+        order = next_times(time, taken.source, taken.sink, order, end, latest);
+        count = taken.count;
+        steps += 1;
     }
     LastStage {
         count,

@@ -4,12 +4,9 @@ use Prim.Native.Nat.{ℕ, ◌+◌, ◌*◌, ◌<◌}
 use native.Mathlib.Omega.{arith}
 use lib.ListN.{length}
 use Rattle.records.proofs.Rows.{place-within, place-small}
-use Rattle.candidates.proofs.Diagonal.{Zeroed, zeroed-none, zeroed-more, zeroed-all}
+use Rattle.candidates.proofs.Diagonal.{Zeroed, zeroed-more, zeroed-all}
 use Rattle.candidates.proofs.zero_diagonal.Goals as goal
 use Rattle.candidates.proofs.zero_diagonal.Goals.{In-loop-v}
-
-pub loop-v-init : goal.loop-v-init
-loop-v-init c = (omega arith, zeroed-none c.args.tasks c.args.table.now)
 
 small : (c : In-loop-v) → c.loop-v.v * c.args.tasks + c.loop-v.v < 4096
 small c =
@@ -20,29 +17,14 @@ inside : (c : In-loop-v) → c.loop-v.v * c.args.tasks + c.loop-v.v < length c.l
 inside c =
     let n = c.args.tasks in
     let v = c.loop-v.v in
-    omega (arith, place-within n n v v c.loop-v-test.true c.loop-v-test.true, c.loop-v.invariant.1.size, c.requires.1)
-
-pub overflow_mul-table : goal.overflow_mul-table
-overflow_mul-table c = omega (arith, small (goal.at.overflow_mul-table c).In-loop-v)
-
-pub overflow_add-table : goal.overflow_add-table
-overflow_add-table c = omega (arith, small (goal.at.overflow_add-table c).In-loop-v)
-
-pub offset_bounds-table-v : goal.offset_bounds-table-v
-offset_bounds-table-v c = omega (arith, small (goal.at.offset_bounds-table-v c).In-loop-v)
-
-pub bounds-table-v : goal.bounds-table-v
-bounds-table-v c = inside (goal.at.bounds-table-v c).In-loop-v
+    omega (arith, place-within n n v v c.loop-v-test.true c.loop-v-test.true, c.loop-v.invariant.size, c.requires.1)
 
 pub loop-v-preserved : goal.loop-v-preserved
-loop-v-preserved c = (omega arith, zeroed-more c.loop-v.invariant.1 c.loop-v-test.true (inside (goal.at.loop-v-preserved c).In-loop-v))
-
-pub shape_of-table : goal.shape_of-table
-shape_of-table c = c.loop-v.invariant.1.size
+loop-v-preserved c = zeroed-more c.loop-v.invariant c.loop-v-test.true (inside (goal.at.loop-v-preserved c).In-loop-v)
 
 pub returns : goal.returns
 returns c = λ es least.
     let n = c.args.tasks in
     let loop = c.loop-v in
     let whole : loop.v ≡ n = omega arith in
-    zeroed-all (subst (λ (v : ℕ). Zeroed n v c.args.table.now loop.table) whole loop.invariant.1) es least c.requires.1
+    zeroed-all (subst (λ (v : ℕ). Zeroed n v c.args.table.now loop.table) whole loop.invariant) es least c.requires.1

@@ -9,14 +9,6 @@ use Rattle.results.proofs.Fronts.{held_same}
 use Rattle.first_stage.proofs.Given.{part_length, part-ends, first-is}
 use Rattle.first_stage.proofs.first_stage.Goals as goal
 
-pub redundant_marks-marks-requires : goal.redundant_marks-marks-requires
-redundant_marks-marks-requires c =
-    let asked = c.requires in
-    let size = asked.tasks_bound in
-    let args = c.args in
-    let front = table-front args.tasks (edges_of args.source.now args.sink.now args.delay.now) _ c.least_table.ensures in
-    record { sink_len = asked.sink_len; tasks_bound = (size.0, omega (arith, size.0, size.2)); fit = asked.fit; apart = asked.apart; table_value = front }
-
 pub keep_needed-requires : goal.keep_needed-requires
 keep_needed-requires c =
     let asked = c.requires in

@@ -1,7 +1,7 @@
 -- `first_stage::keep_needed` meets its contract: after j steps the lists hold those of the first j edges that are needed, at most j.
 use mathlib.Core.Path.{◌≡◌}
 use mathlib.Core.List.{List}
-use Prim.Native.Nat.{◌-◌, ◌≤◌}
+use Prim.Native.Nat.{◌≤◌}
 use lib.ListN.{length}
 use Rattle.model.specs.Tasks.{Edge}
 use Rattle.marks.specs.Marks.{mark_at}
@@ -12,9 +12,6 @@ use Rattle.first_stage.proofs.keep_needed.Given as goal
 
 abbrev pub invariant-loop-j : goal.invariant-loop-j
 invariant-loop-j l =
-    (l.j ≤ length l.source) × (l.kept ≤ l.j) × (length l.sources ≡ 256) × (length l.sinks ≡ 256) × (length l.delays ≡ 256) ×
+    (l.kept ≤ l.j) × (length l.sources ≡ 256) × (length l.sinks ≡ 256) × (length l.delays ≡ 256) ×
     ((es : List Edge) → Fit l.tasks es → l.table ≡ delay_table l.tasks es →
     HeldFront 256 l.kept l.sources l.sinks l.delays (needed_below l.tasks es (mark_at l.marks) l.source l.sink l.delay l.j))
-
-abbrev pub decreases-loop-j : goal.decreases-loop-j
-decreases-loop-j l = length l.source - l.j

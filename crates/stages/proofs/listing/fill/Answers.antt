@@ -12,25 +12,23 @@ use Rattle.stages.proofs.listing.fill.Goals as goal
 pub loop-j-init : goal.loop-j-init
 loop-j-init c =
     let stage = c.args.stage in
-    (omega arith, sym (upto-none stage.source stage.sink stage.delay c.args.list.now))
+    sym (upto-none stage.source stage.sink stage.delay c.args.list.now)
 
 pub loop-j-preserved : goal.loop-j-preserved
 loop-j-preserved c =
     let stage = c.args.stage in
-    let j = c.loop-j.j in (
-      omega arith,
-      ap (λ (rs : List EdgeRecord). set rs j (stored stage.source stage.sink stage.delay j)) c.loop-j.invariant.1
-          ∙ upto-more stage.source stage.sink stage.delay c.args.list.now j (omega (arith, c.requires.0)),
-    )
+    let j = c.loop-j.j in
+    ap (λ (rs : List EdgeRecord). set rs j (stored stage.source stage.sink stage.delay j)) c.loop-j.invariant
+    ∙ upto-more stage.source stage.sink stage.delay c.args.list.now j (omega (arith, c.requires.0))
 
 pub returns : goal.returns
 returns c =
     let stage = c.args.stage in
-    let all : c.loop-j.j ≡ stage.count = omega (arith, c.loop-j.invariant.0) in
+    let all : c.loop-j.j ≡ stage.count = omega arith in
     let source_room : length stage.source ≡ 256 = search rules in
     let sink_room : length stage.sink ≡ 256 = search rules in
     let delay_room : length stage.delay ≡ 256 = search rules in
     let few = c.requires.1 in
-    c.loop-j.invariant.1
+    c.loop-j.invariant
     ∙ ap (upto stage.source stage.sink stage.delay c.args.list.now) all
     ∙ upto_all stage.source stage.sink stage.delay c.args.list.now stage.count (omega arith) (omega arith) (omega arith)

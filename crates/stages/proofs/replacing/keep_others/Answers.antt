@@ -21,16 +21,7 @@ pub loop-j-init : goal.loop-j-init
 unfolding tabulate keep
 loop-j-init c =
     let asked = c.requires.count_bound in
-    (omega arith, omega arith, held_none asked.1 asked.2 asked.3, (λ i l. refl), (λ i l. refl), (λ i l. refl))
-
-pub bounds-source-j : goal.bounds-source-j
-bounds-source-j c = omega (arith, c.requires.count_bound.0, c.loop-j.invariant.2.sources.room)
-
-pub bounds-sink-j : goal.bounds-sink-j
-bounds-sink-j c = omega (arith, c.requires.count_bound.0, c.loop-j.invariant.2.sinks.room)
-
-pub bounds-delay-j : goal.bounds-delay-j
-bounds-delay-j c = omega (arith, c.requires.count_bound.0, c.loop-j.invariant.2.delays.room)
+    (omega arith, held_none asked.1 asked.2 asked.3, (λ i l. refl), (λ i l. refl), (λ i l. refl))
 
 pub is_subsumed-requires : goal.is_subsumed-requires
 unfolding at
@@ -39,8 +30,8 @@ is_subsumed-requires c =
     let j = c.loop-j.j in
     let ends = c.requires.by_index j c.loop-j-test.true in
     let inv = c.loop-j.invariant in
-    let s = inv.3 j (le_refl j) in
-    let t = inv.4 j (le_refl j) in (
+    let s = inv.2 j (le_refl j) in
+    let t = inv.3 j (le_refl j) in (
       omega (arith, asked.0, asked.3),
       omega (arith, asked.0, asked.4),
       omega (arith, asked.0, asked.1, asked.3, ends.0, s),
@@ -49,15 +40,9 @@ is_subsumed-requires c =
 
 pub store-requires : goal.store-requires
 store-requires c =
-    let held = c.loop-j.invariant.2 in
+    let held = c.loop-j.invariant.1 in
     let few = c.requires.count_bound.0 in
     (omega (arith, few, held.sources.room), omega (arith, few, held.sinks.room), omega (arith, few, held.delays.room))
-
-pub overflow_add-kept : goal.overflow_add-kept
-overflow_add-kept c = omega (arith, c.requires.count_bound.0)
-
-pub overflow_add-j : goal.overflow_add-j
-overflow_add-j c = omega (arith, c.requires.count_bound.0)
 
 pub loop-j-preserved : goal.loop-j-preserved
 unfolding held_edge
@@ -69,7 +54,7 @@ loop-j-preserved c =
     let j = here.j in
     let inv = here.invariant in
     let read : Edge = held_edge here.source here.sink here.delay j in
-    let same : read ≡ f j = λ i. record { source = inv.3 j (le_refl j) i; sink = inv.4 j (le_refl j) i; delay = inv.5 j (le_refl j) i } in
+    let same : read ≡ f j = λ i. record { source = inv.2 j (le_refl j) i; sink = inv.3 j (le_refl j) i; delay = inv.4 j (le_refl j) i } in
     let few = c.requires.count_bound.0 in
     let said = ap t (sym same) ∙ sym (ap not c.is_subsumed.ensures) in
     let next = ap (keep t) (tabulate-more f j) in
@@ -78,33 +63,22 @@ loop-j-preserved c =
           let source = w.source-is ∙ w.store.ensures.to_source_after in
           let sink = w.sink-is ∙ w.store.ensures.to_sink_after in
           let delay = w.delay-is ∙ w.store.ensures.to_delay_after in (
-            omega arith,
-            omega (arith, w.kept-is, inv.1),
-            held_same (held_more read inv.2 (omega (arith, few, inv.0, inv.1)))
+            omega (arith, w.kept-is, inv.0),
+            held_same (held_more read inv.1 (omega (arith, few, inv.0)))
                 (next ∙ (keep-more t (tabulate j f) (f j) (said ∙ ap not w.if-not-is_subsumed.true) ∙ ap (λ (e : Edge). keep t (tabulate j f) ++ (e ∷ [])) (sym same)))
                 w.kept-is source sink delay,
-            behind-set args.source.now here.source here.kept _ inv.1 source inv.3,
-            behind-set args.sink.now here.sink here.kept _ inv.1 sink inv.4,
-            behind-set args.delay.now here.delay here.kept _ inv.1 delay inv.5,
+            behind-set args.source.now here.source here.kept _ inv.0 source inv.2,
+            behind-set args.sink.now here.sink here.kept _ inv.0 sink inv.3,
+            behind-set args.delay.now here.delay here.kept _ inv.0 delay inv.4,
           )
       | else-not-is_subsumed w ↦ (
-        omega arith,
-        omega (arith, w.kept-is, inv.1),
-        held_same inv.2 (next ∙ keep_same t (tabulate j f) (f j) (said ∙ ap not w.if-not-is_subsumed.false)) w.kept-is w.source-is w.sink-is w.delay-is,
-        behind-step args.source.now here.source w.source-is inv.3,
-        behind-step args.sink.now here.sink w.sink-is inv.4,
-        behind-step args.delay.now here.delay w.delay-is inv.5,
+        omega (arith, w.kept-is, inv.0),
+        held_same inv.1 (next ∙ keep_same t (tabulate j f) (f j) (said ∙ ap not w.if-not-is_subsumed.false)) w.kept-is w.source-is w.sink-is w.delay-is,
+        behind-step args.source.now here.source w.source-is inv.2,
+        behind-step args.sink.now here.sink w.sink-is inv.3,
+        behind-step args.delay.now here.delay w.delay-is inv.4,
       )
     ]
-
-pub shape_of-source : goal.shape_of-source
-shape_of-source c = c.loop-j.invariant.2.sources.room ∙ sym (c.requires.count_bound.1)
-
-pub shape_of-sink : goal.shape_of-sink
-shape_of-sink c = c.loop-j.invariant.2.sinks.room ∙ sym (c.requires.count_bound.2)
-
-pub shape_of-delay : goal.shape_of-delay
-shape_of-delay c = c.loop-j.invariant.2.delays.room ∙ sym (c.requires.count_bound.3)
 
 pub returns : goal.returns
 returns c =
@@ -115,6 +89,6 @@ returns c =
     let delay = args.delay.now in
     let f = held_edge source sink delay in
     let t : Edge → Bool = λ e. not (subsumes_by args.from.now args.to.now args.a args.b e) in
-    let whole : args.count ≡ c.loop-j.j = omega (arith, c.loop-j.invariant.0) in
+    let whole : args.count ≡ c.loop-j.j = omega arith in
     let all = listed source sink delay [] args.count (omega (arith, asked.0, asked.1)) (omega (arith, asked.0, asked.2)) (omega (arith, asked.0, asked.3)) in
-    held_same (c.loop-j.invariant.2) (ap (keep t) (all ∙ ap (λ (n : ℕ). tabulate n f) whole)) refl refl refl refl
+    held_same (c.loop-j.invariant.1) (ap (keep t) (all ∙ ap (λ (n : ℕ). tabulate n f) whole)) refl refl refl refl

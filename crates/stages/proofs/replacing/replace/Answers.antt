@@ -10,18 +10,12 @@ use Rattle.model.specs.Tasks.{Edge}
 use Rattle.model.specs.Plan.{pair_edge, with_pair}
 use Rattle.subsumption.specs.Subsumption.{subsumes_by}
 use Rattle.results.proofs.Fronts.{held_more, held_same, held-edges}
-use Rattle.stages.proofs.Staged.{front-few, front_ends}
+use Rattle.stages.proofs.Staged.{front_ends}
 use Rattle.stages.proofs.replacing.replace.Goals as goal
 use Rattle.stages.proofs.replacing.replace.Goals.{After-keep_others-kept}
 
-pub keep_others-kept-requires : goal.keep_others-kept-requires
-keep_others-kept-requires c =
-    let held = c.requires.held_front.1 in
-    record {
-      count_bound = (front-few held, held.sources.room, held.sinks.room, held.delays.room);
-      tasks_bound = c.requires.tasks_bound;
-      by_index = front_ends held (c.requires.held_front.2);
-    }
+pub keep_others-kept-requires-clause-by_index : goal.keep_others-kept-requires-clause-by_index
+keep_others-kept-requires-clause-by_index c = front_ends (c.requires.held_front.1) (c.requires.held_front.2)
 
 -- fewer than 256 edges are kept before the pair's
 few-kept : (c : After-keep_others-kept) → c.keep_others-kept.result < 256
@@ -36,9 +30,6 @@ store-requires c =
     let held = c.keep_others-kept.ensures in
     let few = few-kept (goal.at.store-requires c).After-keep_others-kept in
     (omega (arith, few, held.sources.room), omega (arith, few, held.sinks.room), omega (arith, few, held.delays.room))
-
-pub overflow_add-result : goal.overflow_add-result
-overflow_add-result c = omega (arith, few-kept (goal.at.overflow_add-result c).After-keep_others-kept)
 
 pub returns : goal.returns
 unfolding with_pair pair_edge
