@@ -4,7 +4,7 @@
 ghost use Rattle.std.specs.Prelude.{◌≡◌};
 ghost use Rattle.figures.specs.Figures.{figures_of};
 
-use acceptance::{Outcome, accept, told};
+use acceptance::{Outcome, SUCCESS, accept};
 
 // Tasks, edges and latency of a graph; 0 if it is refused.
 #[repr(C)]
@@ -20,22 +20,18 @@ pub struct GraphFigures {
 pub fn figures(graph: &[u8]) -> GraphFigures
     ensures { result ≡ figures_of graph.now }
 {
-    let accepted = accept(graph);
-    let refusal = accepted.refusal;
-    let outcome = told(refusal);
-    if refusal.number != 0 {
-        return GraphFigures {
-            outcome,
+    match accept(graph) {
+        Ok(accepted) => GraphFigures {
+            outcome: SUCCESS,
+            tasks: accepted.reading.tasks,
+            edges: accepted.reading.edges,
+            latency: accepted.latency,
+        },
+        Err(fault) => GraphFigures {
+            outcome: fault.into(),
             tasks: 0,
             edges: 0,
             latency: 0,
-        };
-    }
-    let reading = accepted.reading;
-    GraphFigures {
-        outcome,
-        tasks: reading.tasks,
-        edges: reading.edges,
-        latency: accepted.latency,
+        },
     }
 }

@@ -6,18 +6,18 @@ use lib.ListN.{length-replicate}
 use Rattle.delays.proofs.Table.{table-front, table-room}
 use Rattle.redundancy.proofs.Graphs.{graph-apart}
 use Rattle.acceptance.proofs.Fronts.{front_edges}
-use Rattle.acceptance.proofs.Readings.{graph-fronts, graph-within, few-tasks, as-many-edges, few-edges, original-fit, square-small}
+use Rattle.acceptance.proofs.Readings.{graph-fronts, few-tasks, as-many-edges, few-edges, original-fit, square-small}
 use Rattle.redundant.proofs.Answers.{lists-marked}
 use Rattle.redundant.proofs.marks_of.Goals as goal
 
-pub slice_bounds-least_table-end : goal.slice_bounds-least_table-end
-slice_bounds-least_table-end c = (graph-within c.requires).source
+pub slice_bounds-source-end : goal.slice_bounds-source-end
+slice_bounds-source-end c = few-edges c.requires
 
-pub slice_bounds-least_table-end-2 : goal.slice_bounds-least_table-end-2
-slice_bounds-least_table-end-2 c = (graph-within c.requires).sink
+pub slice_bounds-sink-end : goal.slice_bounds-sink-end
+slice_bounds-sink-end c = few-edges c.requires
 
-pub slice_bounds-least_table-end-3 : goal.slice_bounds-least_table-end-3
-slice_bounds-least_table-end-3 c = (graph-within c.requires).delay
+pub slice_bounds-delay-end : goal.slice_bounds-delay-end
+slice_bounds-delay-end c = few-edges c.requires
 
 pub least_table-requires : goal.least_table-requires
 least_table-requires c =
@@ -29,20 +29,11 @@ least_table-requires c =
       fit = original-fit given;
     }
 
-pub slice_bounds-redundant_marks-end : goal.slice_bounds-redundant_marks-end
-slice_bounds-redundant_marks-end c = (graph-within c.requires).source
-
-pub slice_bounds-redundant_marks-end-2 : goal.slice_bounds-redundant_marks-end-2
-slice_bounds-redundant_marks-end-2 c = (graph-within c.requires).sink
-
-pub slice_bounds-redundant_marks-end-3 : goal.slice_bounds-redundant_marks-end-3
-slice_bounds-redundant_marks-end-3 c = (graph-within c.requires).delay
-
 pub overflow_mul-tasks : goal.overflow_mul-tasks
 overflow_mul-tasks c = record { fits = omega (arith, square-small c.requires) }
 
-pub slice_bounds-redundant_marks-end-4 : goal.slice_bounds-redundant_marks-end-4
-slice_bounds-redundant_marks-end-4 c = table-room c.args.graph.tasks (front_edges c.args.graph) _ c.least_table.ensures
+pub slice_bounds-redundant_marks-end : goal.slice_bounds-redundant_marks-end
+slice_bounds-redundant_marks-end c = table-room c.args.graph.now.tasks (front_edges c.args.graph.now) _ c.least_table.ensures
 
 pub redundant_marks-requires : goal.redundant_marks-requires
 redundant_marks-requires c =
@@ -53,7 +44,7 @@ redundant_marks-requires c =
       tasks_bound = (few-tasks given, omega (arith, as-many-edges given, few-edges given));
       fit = original-fit given;
       apart = graph-apart _ given.accepted.formed given.accepted.no_zero_cycle held.tasks-are held.held;
-      table_value = table-front c.args.graph.tasks (front_edges c.args.graph) _ c.least_table.ensures;
+      table_value = table-front c.args.graph.now.tasks (front_edges c.args.graph.now) _ c.least_table.ensures;
     }
 
 pub returns : goal.returns
