@@ -1,4 +1,4 @@
--- The first refusal of a list of checks: a check that passes is left out, one that refused is the answer. Over the places below n it is the one at
+-- The first refusal of a list of checks: a check that passes is left out, one that refuses is the answer. Over the places below n it is the one at
 -- the place where every earlier one passes; and where it goes by a test that decides something, that place is the first which has it.
 use mathlib.Core.Path.{◌≡◌, refl, sym, ap, ◌∙◌, subst}
 use mathlib.Core.Logic.{◌⊎◌, inl, inr, ◌≢◌}
