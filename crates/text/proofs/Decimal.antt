@@ -1,4 +1,4 @@
--- The digits of a number: those of n / 10 and the last one, whatever number of steps was allowed for, as long as it is enough.
+-- The digits of a number: those of n / 10 and the last one, whatever number of steps was allowed for, as long as it is enough. So std's are the same.
 use mathlib.Core.Path.{◌≡◌, sym, ap, ◌∙◌}
 use mathlib.Core.Logic.{◌⊎◌, inl, inr, ⊎_elim}
 use mathlib.Core.List.{List, [], ◌∷◌, ◌++◌}
@@ -7,6 +7,8 @@ use native.Mathlib.Nat.{pow-suc}
 use native.Mathlib.Omega.{arith}
 use lib.ListN.{length, length-append}
 use borrow.Author.Tests.{lt-ltb, le-ltb}
+use Rattle.std.specs.Fmt as fmt
+use Rattle.std.proofs.lemmas.Fmt.{decimal_from_appends, length-decimal-le_succ}
 use Rattle.text.specs.Text.{digit, digits_within, decimal}
 
 pub order : (a b : ℕ) → (a ≤ b) ⊎ (b < a)
@@ -15,9 +17,9 @@ order (suc a) zero = inr (suc-le-suc zero-le)
 order (suc a) (suc b) = ⊎_elim (λ p. inl (suc-le-suc p)) (λ q. inr (suc-le-suc q)) (order a b)
 
 -- one step, by whether the number has one digit
-within-last : (f n : ℕ) → n < 10 → digits_within (suc f) n ≡ digit (n % 10) ∷ []
+within-last : (f n : ℕ) → n < 10 → digits_within (suc f) n ≡ digit n ∷ []
 unfolding digits_within
-within-last f n h = rw (lt-ltb n 10 h)
+within-last f n h = let same : n % 10 ≡ n = omega arith in rw (lt-ltb n 10 h, same)
 
 within_more : (f n : ℕ) → 10 ≤ n → digits_within (suc f) n ≡ digits_within f (n / 10) ++ (digit (n % 10) ∷ [])
 unfolding digits_within
@@ -40,7 +42,7 @@ enough (suc f) (suc g) n h k = go (order 10 n) (λ p q. enough f g (n / 10) p q)
 
 pub decimal-last : (n : ℕ) → n < 10 → decimal n ≡ digit n ∷ []
 unfolding decimal
-decimal-last n last = let same : n % 10 ≡ n = omega arith in within-last n n last ∙ ap (λ (d : ℕ). digit d ∷ []) same
+decimal-last n last = within-last n n last
 
 pub decimal-more : (n : ℕ) → 10 ≤ n → decimal n ≡ decimal (n / 10) ++ (digit (n % 10) ∷ [])
 unfolding decimal
@@ -48,6 +50,12 @@ decimal-more n more =
     let p : n / 10 < n = omega arith in
     let q : n / 10 < suc (n / 10) = omega arith in
     within_more n n more ∙ ap (λ (z : List ℕ). z ++ (digit (n % 10) ∷ [])) (enough n (suc (n / 10)) (n / 10) p q)
+
+-- std's digits of a number are these
+pub std_decimal : (n : ℕ) → n < 2 ^ 64 → fmt.decimal n ≡ decimal n
+unfolding digit decimal
+std_decimal n small =
+    sym (decimal_from_appends digits_within (record { one = within-last; more = within_more }) (suc n) n small (omega (arith, length-decimal-le_succ n small)))
 
 -- ── How many digits ──
 

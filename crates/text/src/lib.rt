@@ -24,30 +24,22 @@ pub fn put_word(out: &mut [u8], at: usize, word: &[u8]) -> usize
     end
 }
 
-// The digits of a number. By hand: tried, `write!` into a fixed buffer that is a `fmt::Write`. After `Ok` the text was proved to be `decimal n`, but std
-// never promises `Ok`, and says nothing of the buffer after `Err`, so no caller could promise its bytes.
+// The digits of a number.
+#[tactic(auto, using(crate::proofs::Decimal::std_decimal))]
 pub fn put_number(out: &mut [u8], at: usize, n: u32) -> usize
     requires { at + length (decimal n) ≤ length out.old }
     ensures { Appended at (decimal n) out.old out.new result }
 {
-    if n < 10 {
-        return put(out, at, b'0' + n as u8);
-    }
-    let next = put_number(out, at, n / 10);
-    put(out, next, b'0' + (n % 10) as u8)
+    put_word(out, at, itoa::Buffer::new().format(n).as_bytes())
 }
 
 // A number with its sign, if it is below 0.
+#[tactic(auto, using(crate::proofs::Signs::std_signed))]
 pub fn put_signed(out: &mut [u8], at: usize, n: i32) -> usize
     requires { at + length (signed n) ≤ length out.old }
     ensures { Appended at (signed n) out.old out.new result }
 {
-    let size = n.unsigned_abs();
-    if n < 0 {
-        let next = put(out, at, b'-');
-        return put_number(out, next, size);
-    }
-    put_number(out, at, size)
+    put_word(out, at, itoa::Buffer::new().format(n).as_bytes())
 }
 
 // A number as a field, after one space.
