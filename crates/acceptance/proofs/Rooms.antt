@@ -9,14 +9,16 @@ use Prim.Native.Nat.{ℕ, ◌≤◌, ◌<◌}
 use native.Mathlib.Omega.{arith}
 use lib.Dec.{ltb}
 use borrow.Author.Tests.{lt-ltb, le-ltb}
+use Rattle.std.proofs.Common.{Ok}
 use Rattle.model.specs.Theorems.{Decides}
 use Rattle.model.proofs.Basics.{order}
 use Rattle.model.proofs.Tests.{decides-yes, decides-no, decided, ltb-decides}
 use Rattle.files.specs.declared.Refusal.{Refusal}
 use Rattle.files.specs.Files.{graph_of}
 use Rattle.files.specs.Refusals.{refuse, first, not_refused}
-use Rattle.files.proofs.First.{passes, stops, check-passes, check-stops, no-checks, number_same, zero_or_not, none-refused}
-use Rattle.acceptance.specs.Acceptance.{acceptance_refusal}
+use Rattle.files.proofs.First.{passes, stops, check-passes, check-stops, no-checks, number_same, zero_or_not, none-refused, one-check, goes_on}
+use Rattle.acceptance.specs.declared.Acceptance.{Acceptance}
+use Rattle.acceptance.specs.Acceptance.{acceptance_refusal, Accepts}
 use Rattle.acceptance.specs.Outcomes.{outcome, room_refusal}
 use Rattle.acceptance.specs.Theorems.{Judged, zero-cycle, input_waits, not_joined, bound_below, passes as in_order, AcceptedFile, SuccessPlain, ShortNoPlace, OutcomePlain}
 use Rattle.acceptance.proofs.Judged.{accepted-iff-passed, refused-iff-judged}
@@ -122,6 +124,23 @@ module _ (earlier : Refusal) (needed room : ℕ) where
       go (inl passed) (inl long) = (passed, long)
       go (inl passed) (inr short) = absurd (omega (arith, sym (number_same (too_short passed short)) ∙ none))
       go (inr some) long = absurd (some (number_same (sym (refused-earlier some)) ∙ none))
+
+-- ── 16 of an accepted file ──
+
+module _ (needed room : ℕ) where
+  last-room : first (room_refusal needed room ∷ []) ≡ room_refusal needed room
+  unfolding room_refusal
+  last-room = one-check (ltb room needed) 16 0 (λ z. omega arith)
+
+  pub room-enough : not_refused ≡ room_refusal needed room → needed ≤ room
+  room-enough is = (room-given needed room).0 (number_same (last-room ∙ sym is))
+
+  -- what the check of the room gives is what the chain gives, for as many elements as the file needs
+  pub room-checked :
+      (s : List ℕ) {r : Acceptance} → Accepts s (Ok r) → {q : Refusal} {needed' : ℕ} → q ≡ room_refusal needed room → needed ≡ needed' →
+      q ≡ first (acceptance_refusal s ∷ room_refusal needed' room ∷ [])
+  room-checked s given is same =
+      is ∙ sym last-room ∙ (λ i. first (room_refusal (same i) room ∷ [])) ∙ sym (goes_on _ given.refusal refl)
 
 -- only where nothing is refused earlier does it matter how much room is needed
 pub same-room :

@@ -2,59 +2,50 @@
 #![tactic(auto)]
 
 ghost use Rattle.std.specs.Prelude.{◌≡◌, length};
+ghost use Rattle.files.specs.Refusals.{refusal_in};
 ghost use Rattle.acceptance.specs.Outcomes.{outcome};
 ghost use Rattle.timetable.specs.Timetable.{turns_refusal, timetable_refusal, timetable_after};
 
-use acceptance::{Outcome, accept, told, with_room};
-use files::{PASSED, Refusal};
+use acceptance::{Outcome, accept, check_room};
+use files::Fault;
 use starts::turns_into;
-
-const TURNS_OUTSIDE: Refusal = Refusal {
-    number: 17,
-    place: 0,
-};
-
-// 17, for any number of turns.
-fn check_turns(turns: usize) -> Refusal
-    ensures { result ≡ turns_refusal turns }
-{
-    if turns < 1 {
-        return TURNS_OUTSIDE;
-    }
-    if 64 < turns {
-        return TURNS_OUTSIDE;
-    }
-    PASSED
-}
 
 // The earliest starts at the estimated times in turns 1 to `turns`, turn by turn at the front of the list, tasks in order.
 pub fn timetable(graph: &[u8], turns: usize, starts: &mut [u32]) -> Outcome
     ensures outcome { result ≡ outcome (timetable_refusal graph.now turns (length starts.old)) }
     ensures starts { starts.new ≡ timetable_after graph.now turns starts.old }
 {
-    let outside = check_turns(turns);
-    if outside.number != 0 {
-        return told(outside);
-    }
-    let accepted = accept(graph);
-    let reading = accepted.reading;
+    write_starts(graph, turns, starts).into()
+}
+
+// Writes the starts, or nothing where something is refused.
+fn write_starts(graph: &[u8], turns: usize, starts: &mut [u32]) -> Result<(), Fault>
+    ensures refusal { refusal_in result ≡ timetable_refusal graph.now turns (length starts.old) }
+    ensures starts { starts.new ≡ timetable_after graph.now turns starts.old }
+{
+    check_turns(turns)?;
+    let accepted = accept(graph)?;
+    let reading = &accepted.reading;
     let tasks = reading.tasks as usize;
-    let refusal = with_room(accepted.refusal, tasks * turns, starts.len());
-    if refusal.number != 0 {
-        return told(refusal);
-    }
+    check_room(tasks * turns, starts.len())?;
     let end = tasks + reading.edges as usize;
-    let source = reading.source;
-    let sink = reading.sink;
-    let delay = reading.delay;
-    let time = reading.time;
     turns_into(
-        &source[0..end],
-        &sink[0..end],
-        &delay[0..end],
-        &time[0..tasks],
+        &reading.source[0..end],
+        &reading.sink[0..end],
+        &reading.delay[0..end],
+        &reading.time[0..tasks],
         turns,
         starts,
     );
-    told(refusal)
+    Ok(())
+}
+
+// 17, for any number of turns.
+fn check_turns(turns: usize) -> Result<(), Fault>
+    ensures { refusal_in result ≡ turns_refusal turns }
+{
+    if !(1..=64).contains(&turns) {
+        return Err(Fault::TurnsOutside);
+    }
+    Ok(())
 }

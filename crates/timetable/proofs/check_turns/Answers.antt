@@ -1,14 +1,13 @@
--- `timetable::check_turns` meets its contract: by the two tests.
-use mathlib.Core.Path.{sym}
-use native.Mathlib.Omega.{arith}
-use Rattle.timetable.proofs.Answers.{turns-few, turns-many, turns-inside}
+-- `timetable::check_turns` meets its contract: the range holds what the definition's two tests let by.
+use Rattle.std.proofs.Common.{rules}
+use Rattle.files.specs.Refusals.{refuse}
+use Rattle.timetable.specs.Timetable.{turns_refusal}
 use Rattle.timetable.proofs.check_turns.Goals as goal
 
-pub returns-then-turns-lt1 : goal.returns-then-turns-lt1
-returns-then-turns-lt1 c = sym (turns-few c.args.turns (omega (arith, c.if-turns-lt1.true)))
-
-pub returns-then-turns-gt64 : goal.returns-then-turns-gt64
-returns-then-turns-gt64 c = sym (turns-many c.args.turns (omega (arith, c.if-turns-lt1.false)) (omega (arith, c.if-turns-gt64.true)))
+pub returns-then-not-contains : goal.returns-then-not-contains
+unfolding turns_refusal refuse
+returns-then-not-contains c = search rules
 
 pub returns : goal.returns
-returns c = sym (turns-inside c.args.turns (omega (arith, c.if-turns-lt1.false)) (omega (arith, c.if-turns-gt64.false)))
+unfolding turns_refusal refuse
+returns c = search rules
