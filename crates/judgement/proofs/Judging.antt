@@ -31,7 +31,7 @@ use Rattle.records.proofs.Edges.{edge-at, edge_in_lem, edges-of-columns}
 use Rattle.records.proofs.Fill.{length-tabulate, get_d_tabulate}
 use Rattle.records.proofs.Ordered.{sync-place}
 use Rattle.files.specs.declared.Fault.{Fault}
-use Rattle.files.specs.declared.Fault.TheVariants.{FewerBytes, OtherVersion, CountOutside, MoreBytes, FillingBit, TimeOfZero, EndOutside, HeaderOutside, WithinProcessor, RepeatedEdge, ZeroCycle, InputWaits, NotJoined, BoundBelow, OnCycle, LostOrder, Late, ShortList, TurnsOutside}
+use Rattle.files.specs.declared.Fault.TheVariants.{Late}
 use Rattle.files.specs.declared.Refusal.{Refusal}
 use Rattle.files.specs.Files.{edge_in, first_of}
 use Rattle.files.specs.Refusals.{refuse, not_refused, refusal_of, first}
@@ -107,27 +107,17 @@ first-same n f h same = ap first (go n same)
 
 -- ── Faults without latency ──
 
--- only 15 tells a latency
+-- 15 is a late proposal, and nothing else tells a latency
+pub late-or-not : (fault : Fault) → ((latency : ℕ) × (fault ≡ Late latency)) ⊎ (((refusal_of fault).number ≢ 15) × (latency_told (Err fault) ≡ 0))
+late-or-not (Late latency) = inl (latency, refl)
+late-or-not fault = inr ((λ z. omega arith), refl)
+
 no-latency : (fault : Fault) → (refusal_of fault).number ≢ 15 → latency_told (Err fault) ≡ 0
-no-latency FewerBytes other = refl
-no-latency OtherVersion other = refl
-no-latency CountOutside other = refl
-no-latency MoreBytes other = refl
-no-latency FillingBit other = refl
-no-latency (TimeOfZero task) other = refl
-no-latency (EndOutside edge) other = refl
-no-latency HeaderOutside other = refl
-no-latency (WithinProcessor edge) other = refl
-no-latency (RepeatedEdge edge) other = refl
-no-latency ZeroCycle other = refl
-no-latency InputWaits other = refl
-no-latency NotJoined other = refl
-no-latency BoundBelow other = refl
-no-latency (OnCycle edge) other = refl
-no-latency (LostOrder edge) other = refl
-no-latency (Late latency) other = absurd (other refl)
-no-latency ShortList other = refl
-no-latency TurnsOutside other = refl
+no-latency fault other = go (late-or-not fault)
+  where
+    go : ((latency : ℕ) × (fault ≡ Late latency)) ⊎ (((refusal_of fault).number ≢ 15) × (latency_told (Err fault) ≡ 0)) → latency_told (Err fault) ≡ 0
+    go (inl late) = absurd (other (ap (λ (f : Fault). (refusal_of f).number) late.1))
+    go (inr none) = none.1
 
 -- what a `?` hands back of a fault other than 15
 fault-judges :
