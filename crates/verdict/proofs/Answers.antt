@@ -66,6 +66,34 @@ pub chain : (s p : List ℕ) → (acceptance_refusal s).number ≡ 0 → (propos
 unfolding verdict_refusal judged_refusal
 chain s p passed read = passes (acceptance_refusal s) _ passed ∙ (passes (proposal_refusal (tasks_of s) p) _ read ∙ last-answer _)
 
+-- Where latency and margin are told, the judgement tells the latency.
+module _ (r : Refusal) (b l : ℕ) where
+  abbrev told : ℕ
+  told = counted (tells_latency r.number) l
+
+  abbrev Alike : Type 0
+  Alike =
+      (told_late r b told ≡ told_late r b l) × (if_passed r.number told 0 ≡ if_passed r.number l 0) ×
+      (if_passed r.number (margin b told) (pos 0) ≡ if_passed r.number (margin b l) (pos 0))
+
+  told-alike : Alike
+  unfolding counted tells_latency
+  told-alike = go (decided (eqb-decides r.number 0)) (decided (eqb-decides r.number 15))
+    where
+      when-told : (n : ℕ) → r.number ≡ n → counted (tells_latency n) l ≡ l → Alike
+      when-told n same told =
+          let is = ap (λ (m : ℕ). counted (tells_latency m) l) same ∙ told in
+          (ap (told_late r b) is, ap (λ (x : ℕ). if_passed r.number x 0) is, ap (λ (x : ℕ). if_passed r.number (margin b x) (pos 0)) is)
+
+      go : (r.number ≡ 0) ⊎ (r.number ≡ 0 → ⊥) → (r.number ≡ 15) ⊎ (r.number ≡ 15 → ⊥) → Alike
+      go (inl zero) late = when-told 0 zero refl
+      go (inr some) (inl late) = when-told 15 late refl
+      go (inr some) (inr other) = (
+        told-plain r b _ other ∙ sym (told-plain r b l other),
+        if-refused r.number _ 0 some ∙ sym (if-refused r.number l 0 some),
+        if-refused r.number _ (pos 0) some ∙ sym (if-refused r.number (margin b l) (pos 0) some),
+      )
+
 module _ (s p : List ℕ) {a : Acceptance} (given : Accepts s (Ok a)) where
   same-tasks : proposal_refusal a.reading.tasks p ≡ proposal_refusal (tasks_of s) p
   unfolding tasks_of
@@ -113,40 +141,6 @@ module _ (s p : List ℕ) {a : Acceptance} (given : Accepts s (Ok a)) where
         let fits = (well-formed s given).bound_fits in
         let small = told-latency-small (graph_of s) (proposal_of p) (accepted s given).1 edges-formed in
         (omega (arith, fits, (read-fronts s given).bound_is), omega (arith, judged.latency, small))
-
-    -- where latency and margin are told, the judgement tells the latency
-    told-alike :
-        (refusal : Refusal) (b l : ℕ) →
-        (told_late refusal b (counted (tells_latency refusal.number) l) ≡ told_late refusal b l) ×
-        (if_passed refusal.number (counted (tells_latency refusal.number) l) 0 ≡ if_passed refusal.number l 0) ×
-        (if_passed refusal.number (margin b (counted (tells_latency refusal.number) l)) (pos 0) ≡ if_passed refusal.number (margin b l) (pos 0))
-    unfolding counted tells_latency
-    told-alike refusal b l = go (decided (eqb-decides refusal.number 0)) (decided (eqb-decides refusal.number 15))
-      where
-        told_at : (n : ℕ) → refusal.number ≡ n → counted (tells_latency n) l ≡ l → counted (tells_latency refusal.number) l ≡ l
-        told_at n same told = ap (λ (m : ℕ). counted (tells_latency m) l) same ∙ told
-
-        when-told : counted (tells_latency refusal.number) l ≡ l →
-            (told_late refusal b (counted (tells_latency refusal.number) l) ≡ told_late refusal b l) ×
-            (if_passed refusal.number (counted (tells_latency refusal.number) l) 0 ≡ if_passed refusal.number l 0) ×
-            (if_passed refusal.number (margin b (counted (tells_latency refusal.number) l)) (pos 0) ≡ if_passed refusal.number (margin b l) (pos 0))
-        when-told told = (
-          ap (told_late refusal b) told,
-          ap (λ (x : ℕ). if_passed refusal.number x 0) told,
-          ap (λ (x : ℕ). if_passed refusal.number (margin b x) (pos 0)) told,
-        )
-
-        go : (refusal.number ≡ 0) ⊎ (refusal.number ≡ 0 → ⊥) → (refusal.number ≡ 15) ⊎ (refusal.number ≡ 15 → ⊥) →
-            (told_late refusal b (counted (tells_latency refusal.number) l) ≡ told_late refusal b l) ×
-            (if_passed refusal.number (counted (tells_latency refusal.number) l) 0 ≡ if_passed refusal.number l 0) ×
-            (if_passed refusal.number (margin b (counted (tells_latency refusal.number) l)) (pos 0) ≡ if_passed refusal.number (margin b l) (pos 0))
-        go (inl zero) late = when-told (told_at 0 zero refl)
-        go (inr some) (inl late) = when-told (told_at 15 late refl)
-        go (inr some) (inr other) = (
-          told-plain refusal b _ other ∙ sym (told-plain refusal b l other),
-          if-refused refusal.number _ 0 some ∙ sym (if-refused refusal.number l 0 some),
-          if-refused refusal.number _ (pos 0) some ∙ sym (if-refused refusal.number (margin b l) (pos 0) some),
-        )
 
     module _ {answer : Result ℕ Fault} (judged : Judges answer (judgement (graph_of s) (proposal_of p))) where
       refusal_is : refusal_in answer ≡ verdict_refusal s p

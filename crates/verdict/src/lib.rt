@@ -30,7 +30,7 @@ fn margin_of(bound: u32, latency: u32) -> i32
     bound as i32 - latency as i32
 }
 
-// A fault that names no latency and no margin.
+// The answer to a fault, without latency and margin.
 fn refused(fault: Fault) -> ProposalVerdict
     ensures { (result.outcome ≡ outcome (refusal_of fault)) × (result.latency ≡ 0) × (result.margin ≡ pos 0) }
 {
