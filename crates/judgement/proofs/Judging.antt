@@ -11,6 +11,9 @@ use lib.Dec.{ltb}
 use lib.ListN.{length, get_or, take}
 use lib.Seq.{get_or-take}
 use borrow.Author.Tests.{lt-ltb, le-ltb}
+use Rattle.std.proofs.Common.{Result, Err}
+use Rattle.std.specs.Result.{IsErrAnd}
+use Rattle.std.proofs.lemmas.Result.{err_from_is_err_and}
 use Rattle.model.specs.Lists.{counted, tabulate}
 use Rattle.model.specs.Tasks.{Edge, ◌∈◌, Ends, no_edge, processor_of}
 use Rattle.model.specs.Processors.{processor_edges}
@@ -27,10 +30,12 @@ use Rattle.records.specs.Columns.{SourcesOf, SinksOf, DelaysOf, edges_of, held_e
 use Rattle.records.proofs.Edges.{edge-at, edge_in_lem, edges-of-columns}
 use Rattle.records.proofs.Fill.{length-tabulate, get_d_tabulate}
 use Rattle.records.proofs.Ordered.{sync-place}
+use Rattle.files.specs.declared.Fault.{Fault}
+use Rattle.files.specs.declared.Fault.TheVariants.{Late}
 use Rattle.files.specs.declared.Refusal.{Refusal}
 use Rattle.files.specs.Files.{edge_in, first_of}
-use Rattle.files.specs.Refusals.{refuse, not_refused, first}
-use Rattle.files.proofs.First.{number_same, number-found}
+use Rattle.files.specs.Refusals.{refuse, not_refused, refusal_of, first}
+use Rattle.files.proofs.First.{number_same, number-found, handed_back, fault-number}
 use Rattle.readings.specs.declared.GraphReading.{GraphReading}
 use Rattle.readings.specs.declared.ProposalReading.{ProposalReading}
 use Rattle.readings.specs.Theorems.{HeldEdges}
@@ -44,8 +49,7 @@ use Rattle.results.proofs.Results.{result-edges-are}
 use Rattle.acceptance.specs.Acceptance.{AcceptedReading}
 use Rattle.acceptance.proofs.Fronts.{front, front_edges, lent}
 use Rattle.acceptance.proofs.Readings.{front_length, graph-fronts, few-tasks, as-many-edges, original-fit}
-use Rattle.judgement.specs.declared.Judgement.{Judgement}
-use Rattle.judgement.specs.Judgement.{cycle_refusal, lost_refusal, judged_refusal, tells_latency, judgement}
+use Rattle.judgement.specs.Judgement.{cycle_refusal, lost_refusal, judged_refusal, tells_latency, Judgement, judgement, latency_told, Judges}
 use Rattle.judgement.specs.Searches.{first_cyclic, lost_from, Judgeable, Made, lost_in, late_in}
 use Rattle.judgement.proofs.Chain.{cycles_searched, orders_searched, stops-13, stops-14, stops-15, passed}
 use Rattle.judgement.proofs.Tested.{result-fit, cycles-found, off-cycles-pass, passed-off-cycles, orders-found, held-pass, passed-held, zero-cycle-false}
@@ -100,6 +104,29 @@ first-same n f h same = ap first (go n same)
     go : (n : ℕ) → ((i : ℕ) → i < n → f i ≡ h i) → tabulate n f ≡ tabulate n h
     go zero same = refl
     go (suc n) same = λ i. go n (λ j l. same j (omega arith)) i ++ (same n (omega arith) i ∷ [])
+
+-- ── Faults without latency ──
+
+-- 15 is a late proposal, and nothing else tells a latency
+pub late-or-not : (fault : Fault) → ((latency : ℕ) × (fault ≡ Late latency)) ⊎ (((refusal_of fault).number ≢ 15) × (latency_told (Err fault) ≡ 0))
+late-or-not (Late latency) = inl (latency, refl)
+late-or-not fault = inr ((λ z. omega arith), refl)
+
+no-latency : (fault : Fault) → (refusal_of fault).number ≢ 15 → latency_told (Err fault) ≡ 0
+no-latency fault other = go (late-or-not fault)
+  where
+    go : ((latency : ℕ) × (fault ≡ Late latency)) ⊎ (((refusal_of fault).number ≢ 15) × (latency_told (Err fault) ≡ 0)) → latency_told (Err fault) ≡ 0
+    go (inl late) = absurd (other (ap (λ (f : Fault). (refusal_of f).number) late.1))
+    go (inr none) = none.1
+
+-- what a `?` hands back of a fault other than 15
+fault-judges :
+    (answer : Result ℕ Fault) (fault : Fault) {j : Judgement} → IsErrAnd answer (λ f. f ≡ fault) → (refusal_of fault).number ≢ 15 →
+    record { refusal = refusal_of fault; latency = 0 } ≡ j → Judges answer j
+fault-judges answer fault is other same =
+    let p = err_from_is_err_and answer is in
+    subst (Judges answer) same
+    (record { refusal = handed_back answer fault is; latency = ap latency_told p.1 ∙ (ap (λ (f : Fault). latency_told (Err f)) p.2 ∙ no-latency fault other) })
 
 -- ── An accepted graph in its working form ──
 
@@ -328,12 +355,21 @@ module _ {graph : GraphReading} {proposal : ProposalReading} (judgeable : Judgea
     pub no-cycle : cycle.number ≡ 0 → NoneOnCycle (edges (result (graph_in graph) proposed)) proposed
     no-cycle none = passed-off-cycles (graph_in graph) proposed given.accepted.formed judgeable.formed (number_same (sym is) ∙ none)
 
-    pub judged-13 : cycle.number ≢ 0 → record { refusal = cycle; latency = 0 } ≡ judgement (graph_in graph) proposed
+    judged-13 : cycle.number ≢ 0 → (cycle.number ≡ 13) × (record { refusal = cycle; latency = 0 } ≡ judgement (graph_in graph) proposed)
     unfolding counted tells_latency
     judged-13 some =
-        let thirteen = number-found (cycles-found (graph_in graph) proposed given.accepted.formed judgeable.formed) (λ none. some (number_same is ∙ none)) in
-        judged (stops-13 (graph_in graph) proposed (sym is) some) 0
-        (ap (λ (m : ℕ). counted (tells_latency m) (latency_of (result (graph_in graph) proposed))) (sym (number_same is ∙ thirteen)))
+        let thirteen = number_same is ∙ number-found (cycles-found (graph_in graph) proposed given.accepted.formed judgeable.formed) (λ none. some (number_same is ∙ none)) in (
+          thirteen,
+          judged (stops-13 (graph_in graph) proposed (sym is) some) 0
+              (ap (λ (m : ℕ). counted (tells_latency m) (latency_of (result (graph_in graph) proposed))) (sym thirteen)),
+        )
+
+  pub judges-13 :
+      (answer : Result ℕ Fault) (fault : Fault) → IsErrAnd answer (λ f. f ≡ fault) → refusal_of fault ≡ cycles_searched (graph_in graph) proposed →
+      Judges answer (judgement (graph_in graph) proposed)
+  judges-13 answer fault back is =
+      let told = judged-13 is (fault-number fault) in
+      fault-judges answer fault back (λ late. omega (arith, late, told.0)) told.1
 
   module _ {r : ResultEdges} (held : HeldResult r (edges (result (graph_in graph) proposed))) where
     pub made : Made graph proposed r
@@ -351,14 +387,16 @@ module _ {graph : GraphReading} {proposal : ProposalReading} (judgeable : Judgea
       unfolding lost_refusal lost_in
       first-is = sym (is ∙ ap (lost_in (graph_in graph)) held.held)
 
-      pub judged-14 : lost.number ≢ 0 → record { refusal = lost; latency = 0 } ≡ judgement (graph_in graph) proposed
+      judged-14 : lost.number ≢ 0 → (lost.number ≡ 14) × (record { refusal = lost; latency = 0 } ≡ judgement (graph_in graph) proposed)
       unfolding counted tells_latency
       judged-14 some =
-          let fourteen = number-found (orders-found (graph_in graph) proposed given.accepted.formed judgeable.formed) (λ none. some (number_same (sym first-is) ∙ none)) in
-          judged (stops-14 (graph_in graph) proposed off-cycle first-is some) 0
-          (ap (λ (m : ℕ). counted (tells_latency m) (latency_of (result (graph_in graph) proposed))) (sym (number_same (sym first-is) ∙ fourteen)))
+          let fourteen = number_same (sym first-is) ∙ number-found (orders-found (graph_in graph) proposed given.accepted.formed judgeable.formed) (λ none. some (number_same (sym first-is) ∙ none)) in (
+            fourteen,
+            judged (stops-14 (graph_in graph) proposed off-cycle first-is some) 0
+                (ap (λ (m : ℕ). counted (tells_latency m) (latency_of (result (graph_in graph) proposed))) (sym fourteen)),
+          )
 
-      module _ (kept : lost.number ≡ 0) {last : Judgement} (late : last ≡ late_in (graph_in graph) (result_in r)) where
+      module _ (kept : lost.number ≡ 0) where
         nothing-lost : orders_searched (graph_in graph) proposed ≡ not_refused
         nothing-lost =
             held-pass (graph_in graph) proposed given.accepted.formed judgeable.formed
@@ -368,16 +406,26 @@ module _ {graph : GraphReading} {proposal : ProposalReading} (judgeable : Judgea
         l = latency_of (result (graph_in graph) proposed)
 
         -- by the test of the bound
-        last-is : {b : Bool} → ltb (graph_in graph).bound l ≡ b → last ≡ record { refusal = refuse b 15 0; latency = l }
+        last-is : {b : Bool} → ltb (graph_in graph).bound l ≡ b → late_in (graph_in graph) (result_in r) ≡ record { refusal = refuse b 15 0; latency = l }
         unfolding late_in latency_of result time_of
         last-is above =
-            late ∙ (λ i. record { refusal = refuse (ltb (graph_in graph).bound (latency (count (graph_in graph)) (held.held i) (time_of (graph_in graph)) (graph_in graph).output)) 15 0; latency = latency (count (graph_in graph)) (held.held i) (time_of (graph_in graph)) (graph_in graph).output }) ∙
+            (λ i. record { refusal = refuse (ltb (graph_in graph).bound (latency (count (graph_in graph)) (held.held i) (time_of (graph_in graph)) (graph_in graph).output)) 15 0; latency = latency (count (graph_in graph)) (held.held i) (time_of (graph_in graph)) (graph_in graph).output }) ∙
             (λ i. record { refusal = refuse (above i) 15 0; latency = l })
 
-        pub judged-last : last ≡ judgement (graph_in graph) proposed
+        judged-last : late_in (graph_in graph) (result_in r) ≡ judgement (graph_in graph) proposed
         unfolding refuse counted tells_latency
         judged-last = go (order l (graph_in graph).bound)
           where
-            go : (l ≤ (graph_in graph).bound) ⊎ ((graph_in graph).bound < l) → last ≡ judgement (graph_in graph) proposed
+            go : (l ≤ (graph_in graph).bound) ⊎ ((graph_in graph).bound < l) → late_in (graph_in graph) (result_in r) ≡ judgement (graph_in graph) proposed
             go (inl within) = last-is (le-ltb (graph_in graph).bound l within) ∙ judged (passed (graph_in graph) proposed off-cycle nothing-lost within) l refl
             go (inr above) = last-is (lt-ltb (graph_in graph).bound l above) ∙ judged (stops-15 (graph_in graph) proposed off-cycle nothing-lost above) l refl
+
+        pub judges-last : {answer : Result ℕ Fault} → Judges answer (late_in (graph_in graph) (result_in r)) → Judges answer (judgement (graph_in graph) proposed)
+        judges-last {answer} late = subst (Judges answer) judged-last late
+
+    pub judges-14 :
+        (answer : Result ℕ Fault) (fault : Fault) → IsErrAnd answer (λ f. f ≡ fault) → NoneOnCycle (edges (result (graph_in graph) proposed)) proposed →
+        refusal_of fault ≡ lost_in (graph_in graph) (result_in r) → Judges answer (judgement (graph_in graph) proposed)
+    judges-14 answer fault back off is =
+        let told = judged-14 off is (fault-number fault) in
+        fault-judges answer fault back (λ late. omega (arith, late, told.0)) told.1

@@ -15,7 +15,7 @@ use Rattle.readings.specs.Working.{working_proposal, graph_in, proposed_in}
 use Rattle.results.specs.declared.ResultEdges.{ResultEdges}
 use Rattle.results.specs.Results.{HeldResult}
 use Rattle.acceptance.specs.Acceptance.{AcceptedReading}
-use Rattle.judgement.specs.declared.Judgement.{Judgement}
+use Rattle.judgement.specs.Judgement.{Judgement}
 
 -- the first of the edges of two lists that lies on a cycle of rs: a path leads back from its sink to its source
 unfoldable pub first_cyclic : ℕ → List Edge → List ℕ → List ℕ → Refusal

@@ -3,6 +3,7 @@
 use mathlib.Core.Path.{◌≡◌, refl, sym, ap, ◌∙◌, subst}
 use mathlib.Core.Logic.{◌⊎◌, inl, inr, ◌≢◌}
 use mathlib.Core.List.{List}
+use Rattle.std.proofs.Common.{Result, Ok}
 use Prim.Native.Nat.{ℕ, ◌<◌}
 use native.Mathlib.Omega.{arith}
 use lib.IntN.{pos}
@@ -11,23 +12,22 @@ use Rattle.model.specs.Graph.{Graph, WellFormedEdges, count}
 use Rattle.model.specs.Compute.{latency_of}
 use Rattle.model.specs.Proposals.{result}
 use Rattle.model.proofs.Tests.{decided, eqb-decides}
+use Rattle.files.specs.declared.Fault.{Fault}
 use Rattle.files.specs.declared.Refusal.{Refusal}
 use Rattle.files.specs.Files.{graph_of, proposal_of, proposal_refusal}
-use Rattle.files.specs.Refusals.{if_passed}
-use Rattle.files.proofs.First.{passes, stops, number_same, last-answer, if-refused}
+use Rattle.files.specs.Refusals.{refusal_of, refusal_in, if_passed}
+use Rattle.files.proofs.First.{passes, number_same, ends_with, fault-number, last-answer, if-refused}
 use Rattle.files.proofs.Numbers.{proposal-numbers}
 use Rattle.readings.specs.declared.ProposalReading.{ProposalReading}
-use Rattle.readings.specs.Working.{working_proposal, proposal_reading, graph_in, proposed_in}
+use Rattle.readings.specs.Working.{working_proposal, ProposalRead, graph_in, proposed_in}
 use Rattle.readings.proofs.Accepted.{proposal-formed}
-use Rattle.readings.proofs.Held.{proposal-given, proposal-refusal-given, proposed-in-working}
+use Rattle.readings.proofs.Held.{proposed-in-working}
 use Rattle.acceptance.specs.declared.Acceptance.{Acceptance}
-use Rattle.acceptance.specs.Acceptance.{acceptance_refusal, acceptance}
+use Rattle.acceptance.specs.Acceptance.{acceptance_refusal, Accepts}
 use Rattle.acceptance.specs.Outcomes.{tasks_of, outcome}
-use Rattle.acceptance.specs.Theorems.{AcceptedFile}
-use Rattle.acceptance.proofs.AcceptedFiles.{refusal-given, accepted, read-fronts, graph-held, accepted-reading}
+use Rattle.acceptance.proofs.AcceptedFiles.{accepted-number, accepted, well-formed, read-fronts, graph-held, accepted-reading}
 use Rattle.acceptance.proofs.Rooms.{up-to-12}
-use Rattle.judgement.specs.declared.Judgement.{Judgement}
-use Rattle.judgement.specs.Judgement.{tells_latency, judged_refusal, judgement}
+use Rattle.judgement.specs.Judgement.{tells_latency, judged_refusal, judgement, latency_told, Judges}
 use Rattle.judgement.specs.Searches.{Judgeable}
 use Rattle.judgement.proofs.Sizes.{told-latency-small}
 use Rattle.verdict.specs.declared.ProposalVerdict.{ProposalVerdict}
@@ -53,14 +53,12 @@ module _ (s p : List ℕ) where
       }
 
   pub graph-refused :
-      {a : Acceptance} {r : ProposalVerdict} → a ≡ acceptance s → a.refusal.number ≢ 0 →
-      (r.outcome ≡ outcome a.refusal) × (r.latency ≡ 0) × (r.margin ≡ pos 0) → r ≡ verdict_of s p
+      (fault : Fault) {r : ProposalVerdict} → refusal_of fault ≡ acceptance_refusal s →
+      (r.outcome ≡ outcome (refusal_of fault)) × (r.latency ≡ 0) × (r.margin ≡ pos 0) → r ≡ verdict_of s p
   unfolding verdict_refusal
-  graph-refused {a} is some told =
-      let same : a.refusal ≡ acceptance_refusal s = refusal-given s is in
-      refused-answer
-      (stops (acceptance_refusal s) _ (λ z. some (number_same same ∙ z)) ∙ sym same)
-      some (λ z. omega (arith, z, up-to-12 s, number_same same)) told
+  graph-refused fault is told =
+      let some = fault-number fault in
+      refused-answer (ends_with _ is some) some (λ z. omega (arith, z, up-to-12 s, number_same is)) told
 
 -- ── The chain of checks, past the files ──
 
@@ -68,137 +66,113 @@ pub chain : (s p : List ℕ) → (acceptance_refusal s).number ≡ 0 → (propos
 unfolding verdict_refusal judged_refusal
 chain s p passed read = passes (acceptance_refusal s) _ passed ∙ (passes (proposal_refusal (tasks_of s) p) _ read ∙ last-answer _)
 
-module _ (s p : List ℕ) {a : Acceptance} (is : a ≡ acceptance s) (passed : a.refusal.number ≡ 0) {q : ProposalReading} (read : q ≡ proposal_reading a.reading.tasks p) where
-  graph-passed : (acceptance_refusal s).number ≡ 0
-  graph-passed = number_same (sym (refusal-given s is)) ∙ passed
+-- Where latency and margin are told, the judgement tells the latency.
+module _ (r : Refusal) (b l : ℕ) where
+  abbrev told : ℕ
+  told = counted (tells_latency r.number) l
 
-  file : AcceptedFile s
-  file = accepted s is passed
+  abbrev Alike : Type 0
+  Alike =
+      (told_late r b told ≡ told_late r b l) × (if_passed r.number told 0 ≡ if_passed r.number l 0) ×
+      (if_passed r.number (margin b told) (pos 0) ≡ if_passed r.number (margin b l) (pos 0))
 
-  tasks-are : a.reading.tasks ≡ tasks_of s
+  told-alike : Alike
+  unfolding counted tells_latency
+  told-alike = go (decided (eqb-decides r.number 0)) (decided (eqb-decides r.number 15))
+    where
+      when-told : (n : ℕ) → r.number ≡ n → counted (tells_latency n) l ≡ l → Alike
+      when-told n same told =
+          let is = ap (λ (m : ℕ). counted (tells_latency m) l) same ∙ told in
+          (ap (told_late r b) is, ap (λ (x : ℕ). if_passed r.number x 0) is, ap (λ (x : ℕ). if_passed r.number (margin b x) (pos 0)) is)
+
+      go : (r.number ≡ 0) ⊎ (r.number ≡ 0 → ⊥) → (r.number ≡ 15) ⊎ (r.number ≡ 15 → ⊥) → Alike
+      go (inl zero) late = when-told 0 zero refl
+      go (inr some) (inl late) = when-told 15 late refl
+      go (inr some) (inr other) = (
+        told-plain r b _ other ∙ sym (told-plain r b l other),
+        if-refused r.number _ 0 some ∙ sym (if-refused r.number l 0 some),
+        if-refused r.number _ (pos 0) some ∙ sym (if-refused r.number (margin b l) (pos 0) some),
+      )
+
+module _ (s p : List ℕ) {a : Acceptance} (given : Accepts s (Ok a)) where
+  same-tasks : proposal_refusal a.reading.tasks p ≡ proposal_refusal (tasks_of s) p
   unfolding tasks_of
-  tasks-are = (read-fronts s is passed).tasks-are
-
-  reading-is : q ≡ proposal_reading (tasks_of s) p
-  reading-is = read ∙ ap (λ (n : ℕ). proposal_reading n p) tasks-are
-
-  refusal-read : q.refusal ≡ proposal_refusal (tasks_of s) p
-  refusal-read = ap (λ (x : ProposalReading). x.refusal) reading-is ∙ proposal-refusal-given (tasks_of s) p
+  same-tasks = ap (λ (n : ℕ). proposal_refusal n p) (read-fronts s given).tasks-are
 
   pub proposal-refused :
-      {r : ProposalVerdict} → q.refusal.number ≢ 0 → (r.outcome ≡ outcome q.refusal) × (r.latency ≡ 0) × (r.margin ≡ pos 0) → r ≡ verdict_of s p
+      (fault : Fault) {r : ProposalVerdict} → refusal_of fault ≡ proposal_refusal a.reading.tasks p →
+      (r.outcome ≡ outcome (refusal_of fault)) × (r.latency ≡ 0) × (r.margin ≡ pos 0) → r ≡ verdict_of s p
   unfolding verdict_refusal
-  proposal-refused some told =
-      let low = proposal-numbers (tasks_of s) p in
-      let same = number_same refusal-read in
-      refused-answer s p
-      (passes (acceptance_refusal s) _ graph-passed ∙ (stops (proposal_refusal (tasks_of s) p) _ (λ z. some (number_same refusal-read ∙ z)) ∙ sym refusal-read))
-      some (λ z. omega (arith, z, low, same)) told
+  proposal-refused fault is told =
+      let same = is ∙ same-tasks in
+      let some = fault-number fault in
+      refused-answer s p (passes (acceptance_refusal s) _ (accepted-number s given) ∙ ends_with _ same some) some
+      (λ z. omega (arith, z, proposal-numbers (tasks_of s) p, number_same same)) told
 
   -- ── Judged edges ──
 
-  module _ (read-passed : q.refusal.number ≡ 0) where
+  module _ {q : ProposalReading} (read : ProposalRead a.reading.tasks p (Ok q)) where
     proposal-passed : (proposal_refusal (tasks_of s) p).number ≡ 0
-    proposal-passed = number_same (sym refusal-read) ∙ read-passed
+    proposal-passed = number_same (sym (read.refusal ∙ same-tasks))
 
     edges-formed : WellFormedEdges (count (graph_of s)) (proposal_of p)
     unfolding tasks_of
     edges-formed = proposal-formed (count (graph_of s)) p proposal-passed
 
-    working-form : q ≡ working_proposal (proposal_of p)
-    working-form = reading-is ∙ proposal-given (tasks_of s) p proposal-passed
-
     edges-held : proposed_in q ≡ proposal_of p
-    edges-held = ap proposed_in working-form ∙ proposed-in-working (proposal_of p) edges-formed.few
+    edges-held = ap proposed_in read.value ∙ proposed-in-working (proposal_of p) edges-formed.few
 
     pub judgeable : Judgeable a.reading q
     judgeable =
         record {
-          accepted = accepted-reading s is passed;
-          formed = subst (λ (g : Graph). WellFormedEdges (count g) (proposed_in q)) (sym (graph-held s is passed)) (subst (WellFormedEdges (count (graph_of s))) (sym edges-held) edges-formed);
-          working = working-form ∙ ap working_proposal (sym edges-held);
+          accepted = accepted-reading s given;
+          formed = subst (λ (g : Graph). WellFormedEdges (count g) (proposed_in q)) (sym (graph-held s given)) (subst (WellFormedEdges (count (graph_of s))) (sym edges-held) edges-formed);
+          working = read.value ∙ ap working_proposal (sym edges-held);
         }
 
     -- what is judged of the readings is judged of the files' graph and edges
-    pub judged-here : {j : Judgement} → j ≡ judgement (graph_in a.reading) (proposed_in q) → j ≡ judgement (graph_of s) (proposal_of p)
-    judged-here judged = judged ∙ (λ i. judgement (graph-held s is passed i) (edges-held i))
+    pub judged-here : {answer : Result ℕ Fault} → Judges answer (judgement (graph_in a.reading) (proposed_in q)) → Judges answer (judgement (graph_of s) (proposal_of p))
+    judged-here {answer} judged = subst (Judges answer) (λ i. judgement (graph-held s given i) (edges-held i)) judged
 
     -- what the margin is made of is small
     pub sizes :
-        {j : Judgement} → j ≡ judgement (graph_of s) (proposal_of p) → (a.reading.bound < 1073741824) × (j.latency < 1073741824)
-    sizes {j} judged =
-        let fits = file.1.formed.bound_fits in
-        let small = told-latency-small (graph_of s) (proposal_of p) file.1 edges-formed in
-        let same = ap (λ (x : Judgement). x.latency) judged in
-        (omega (arith, fits, (read-fronts s is passed).bound_is), omega (arith, same, small))
+        {answer : Result ℕ Fault} → Judges answer (judgement (graph_of s) (proposal_of p)) → (a.reading.bound < 1073741824) × (latency_told answer < 1073741824)
+    sizes judged =
+        let fits = (well-formed s given).bound_fits in
+        let small = told-latency-small (graph_of s) (proposal_of p) (accepted s given).1 edges-formed in
+        (omega (arith, fits, (read-fronts s given).bound_is), omega (arith, judged.latency, small))
 
-    -- where latency and margin are told, the judgement tells the latency
-    told-alike :
-        (refusal : Refusal) (b l : ℕ) →
-        (told_late refusal b (counted (tells_latency refusal.number) l) ≡ told_late refusal b l) ×
-        (if_passed refusal.number (counted (tells_latency refusal.number) l) 0 ≡ if_passed refusal.number l 0) ×
-        (if_passed refusal.number (margin b (counted (tells_latency refusal.number) l)) (pos 0) ≡ if_passed refusal.number (margin b l) (pos 0))
-    unfolding counted tells_latency
-    told-alike refusal b l = go (decided (eqb-decides refusal.number 0)) (decided (eqb-decides refusal.number 15))
-      where
-        told_at : (n : ℕ) → refusal.number ≡ n → counted (tells_latency n) l ≡ l → counted (tells_latency refusal.number) l ≡ l
-        told_at n same told = ap (λ (m : ℕ). counted (tells_latency m) l) same ∙ told
-
-        when-told : counted (tells_latency refusal.number) l ≡ l →
-            (told_late refusal b (counted (tells_latency refusal.number) l) ≡ told_late refusal b l) ×
-            (if_passed refusal.number (counted (tells_latency refusal.number) l) 0 ≡ if_passed refusal.number l 0) ×
-            (if_passed refusal.number (margin b (counted (tells_latency refusal.number) l)) (pos 0) ≡ if_passed refusal.number (margin b l) (pos 0))
-        when-told told = (
-          ap (told_late refusal b) told,
-          ap (λ (x : ℕ). if_passed refusal.number x 0) told,
-          ap (λ (x : ℕ). if_passed refusal.number (margin b x) (pos 0)) told,
-        )
-
-        go : (refusal.number ≡ 0) ⊎ (refusal.number ≡ 0 → ⊥) → (refusal.number ≡ 15) ⊎ (refusal.number ≡ 15 → ⊥) →
-            (told_late refusal b (counted (tells_latency refusal.number) l) ≡ told_late refusal b l) ×
-            (if_passed refusal.number (counted (tells_latency refusal.number) l) 0 ≡ if_passed refusal.number l 0) ×
-            (if_passed refusal.number (margin b (counted (tells_latency refusal.number) l)) (pos 0) ≡ if_passed refusal.number (margin b l) (pos 0))
-        go (inl zero) late = when-told (told_at 0 zero refl)
-        go (inr some) (inl late) = when-told (told_at 15 late refl)
-        go (inr some) (inr other) = (
-          told-plain refusal b _ other ∙ sym (told-plain refusal b l other),
-          if-refused refusal.number _ 0 some ∙ sym (if-refused refusal.number l 0 some),
-          if-refused refusal.number _ (pos 0) some ∙ sym (if-refused refusal.number (margin b l) (pos 0) some),
-        )
-
-    module _ {j : Judgement} (judged : j ≡ judgement (graph_of s) (proposal_of p)) where
-      refusal_is : j.refusal ≡ verdict_refusal s p
+    module _ {answer : Result ℕ Fault} (judged : Judges answer (judgement (graph_of s) (proposal_of p))) where
+      refusal_is : refusal_in answer ≡ verdict_refusal s p
       unfolding judgement
-      refusal_is = ap (λ (x : Judgement). x.refusal) judged ∙ sym (chain s p graph-passed proposal-passed)
+      refusal_is = judged.refusal ∙ sym (chain s p (accepted-number s given) proposal-passed)
 
-      latency_is : j.latency ≡ counted (tells_latency j.refusal.number) (result_latency s p)
+      latency_is : latency_told answer ≡ counted (tells_latency (refusal_in answer).number) (result_latency s p)
       unfolding judgement result_latency
       latency_is =
-          ap (λ (x : Judgement). x.latency) judged ∙
-          ap (λ (x : Refusal). counted (tells_latency x.number) (latency_of (result (graph_of s) (proposal_of p)))) (sym (ap (λ (x : Judgement). x.refusal) judged))
+          judged.latency ∙
+          ap (λ (x : Refusal). counted (tells_latency x.number) (latency_of (result (graph_of s) (proposal_of p)))) (sym judged.refusal)
 
       pub judged-answer :
           {r : ProposalVerdict} →
-          r.outcome ≡ told_late j.refusal a.reading.bound j.latency →
-          r.latency ≡ if_passed j.refusal.number j.latency 0 →
-          r.margin ≡ if_passed j.refusal.number (margin a.reading.bound j.latency) (pos 0) → r ≡ verdict_of s p
+          r.outcome ≡ told_late (refusal_in answer) a.reading.bound (latency_told answer) →
+          r.latency ≡ if_passed (refusal_in answer).number (latency_told answer) 0 →
+          r.margin ≡ if_passed (refusal_in answer).number (margin a.reading.bound (latency_told answer)) (pos 0) → r ≡ verdict_of s p
       unfolding verdict_of
       judged-answer told timed-so weighed-so =
           let b = (graph_of s).bound in
           let l = result_latency s p in
-          let bound_is : a.reading.bound ≡ b = (read-fronts s is passed).bound_is in
-          let alike = told-alike j.refusal b l in
+          let q = refusal_in answer in
+          let bound_is : a.reading.bound ≡ b = (read-fronts s given).bound_is in
+          let alike = told-alike q b l in
           λ i. record {
-            outcome =
-                (told ∙
-                ((λ k. told_late j.refusal (bound_is k) (latency_is k)) ∙
-                (alike.0 ∙ ap (λ (x : Refusal). told_late x b l) refusal_is))) i;
+            outcome = (told ∙ ((λ k. told_late q (bound_is k) (latency_is k)) ∙ (alike.0 ∙ ap (λ (x : Refusal). told_late x b l) refusal_is))) i;
             latency =
                 (timed-so ∙
-                (ap (λ (x : ℕ). if_passed j.refusal.number x 0) latency_is ∙
+                (ap (λ (x : ℕ). if_passed q.number x 0) latency_is ∙
                 (alike.1 ∙ ap (λ (x : Refusal). if_passed x.number l 0) refusal_is))) i;
             margin =
                 (weighed-so ∙
-                ((λ k. if_passed j.refusal.number (margin (bound_is k) (latency_is k)) (pos 0)) ∙
+                ((λ k. if_passed q.number (margin (bound_is k) (latency_is k)) (pos 0)) ∙
                 (alike.2 ∙ ap (λ (x : Refusal). if_passed x.number (margin b l) (pos 0)) refusal_is))) i;
           }

@@ -2,13 +2,14 @@
 #![tactic(auto)]
 
 ghost use Rattle.std.specs.Prelude.{◌≡◌, ◌<◌, pos};
-ghost use Rattle.files.specs.Refusals.{if_passed};
+ghost use Rattle.files.specs.Refusals.{refusal_of, refusal_in, if_passed};
 ghost use Rattle.acceptance.specs.Outcomes.{outcome};
+ghost use Rattle.judgement.specs.Judgement.{latency_told};
 ghost use Rattle.verdict.specs.Verdict.{margin, told_late, verdict_of};
 
-use acceptance::{Outcome, accept, told};
-use files::Refusal;
-use judgement::{Judgement, judge};
+use acceptance::{Outcome, SUCCESS, accept};
+use files::Fault;
+use judgement::judge;
 use readings::read_proposal;
 
 // The verdict on a proposal: the latency of its result, and the bound less that latency; 0 if it is refused, and then 15 has both
@@ -29,68 +30,52 @@ fn margin_of(bound: u32, latency: u32) -> i32
     bound as i32 - latency as i32
 }
 
-// A refusal that names no latency and no margin.
-fn refused(refusal: Refusal) -> ProposalVerdict
-    ensures { (result.outcome ≡ outcome refusal) × (result.latency ≡ 0) × (result.margin ≡ pos 0) }
+// The answer to a fault, without latency and margin.
+fn refused(fault: Fault) -> ProposalVerdict
+    ensures { (result.outcome ≡ outcome (refusal_of fault)) × (result.latency ≡ 0) × (result.margin ≡ pos 0) }
 {
-    let outcome = told(refusal);
     ProposalVerdict {
-        outcome,
+        outcome: fault.into(),
         latency: 0,
         margin: 0,
     }
 }
 
-// The answer once the edges are judged: an accepted proposal has latency and margin, a late one has them in its refusal.
-fn weighed(judged: Judgement, bound: u32) -> ProposalVerdict
-    requires { (bound < 1073741824) × (judged.latency < 1073741824) }
-    ensures outcome { result.outcome ≡ told_late judged.refusal bound judged.latency }
-    ensures latency { result.latency ≡ if_passed judged.refusal.number judged.latency 0 }
-    ensures margin { result.margin ≡ if_passed judged.refusal.number (margin bound judged.latency) (pos 0) }
+// The answer once the edges are judged: an accepted proposal has latency and margin, a late one has them in its outcome.
+fn weighed(judged: Result<u32, Fault>, bound: u32) -> ProposalVerdict
+    requires { (bound < 1073741824) × (latency_told judged < 1073741824) }
+    ensures outcome { result.outcome ≡ told_late (refusal_in judged) bound (latency_told judged) }
+    ensures latency { result.latency ≡ if_passed (refusal_in judged).number (latency_told judged) 0 }
+    ensures margin { result.margin ≡ if_passed (refusal_in judged).number (margin bound (latency_told judged)) (pos 0) }
 {
-    let refusal = judged.refusal;
-    let latency = judged.latency;
-    if refusal.number == 0 {
-        let outcome = told(refusal);
-        let margin = margin_of(bound, latency);
-        return ProposalVerdict {
-            outcome,
+    match judged {
+        Ok(latency) => ProposalVerdict {
+            outcome: SUCCESS,
             latency,
-            margin,
-        };
+            margin: margin_of(bound, latency),
+        },
+        Err(fault) => {
+            let mut answer = refused(fault);
+            if let Fault::Late(latency) = fault {
+                answer.outcome.latency = latency;
+                answer.outcome.margin = margin_of(bound, latency);
+            }
+            answer
+        }
     }
-    if refusal.number == 15 {
-        let margin = margin_of(bound, latency);
-        let outcome = Outcome {
-            number: refusal.number,
-            place: refusal.place,
-            latency,
-            margin,
-        };
-        return ProposalVerdict {
-            outcome,
-            latency: 0,
-            margin: 0,
-        };
-    }
-    refused(refusal)
 }
 
 // Whether a proposal is accepted beside a graph, with the latency of its result and its margin, or why not.
 pub fn verdict(graph: &[u8], proposal: &[u8]) -> ProposalVerdict
     ensures { result ≡ verdict_of graph.now proposal.now }
 {
-    let accepted = accept(graph);
-    let unaccepted = accepted.refusal;
-    if unaccepted.number != 0 {
-        return refused(unaccepted);
-    }
-    let reading = accepted.reading;
-    let proposed = read_proposal(proposal, reading.tasks as usize);
-    let unread = proposed.refusal;
-    if unread.number != 0 {
-        return refused(unread);
-    }
-    let judged = judge(reading, proposed);
-    weighed(judged, reading.bound)
+    let reading = match accept(graph) {
+        Ok(accepted) => accepted.reading,
+        Err(fault) => return refused(fault),
+    };
+    let proposed = match read_proposal(proposal, reading.tasks as usize) {
+        Ok(proposed) => proposed,
+        Err(fault) => return refused(fault),
+    };
+    weighed(judge(reading, proposed), reading.bound)
 }

@@ -1,50 +1,45 @@
--- `verdict::weighed` meets its contract: by the number, 0, 15 or another.
-use mathlib.Core.Path.{sym, subst, ◌∙◌}
-use lib.IntN.{pos}
-use native.Mathlib.Omega.{arith}
+-- `verdict::weighed` meets its contract: by the answer, accepted, late or another fault.
+use mathlib.Core.Path.{◌≡◌, ap, ◌∙◌}
+use Prim.Native.Nat.{◌<◌}
+use lib.IntN.{ℤ}
+use lib.Signed.{mag}
 use mir.Syntax.{w32}
-use mir.Val.{SFits}
+use mir.Val.{to_z, of_z}
 use mir.ValLaws.{to_z-of_z}
-use Rattle.files.proofs.First.{if-passed, if-refused}
-use Rattle.verdict.specs.Verdict.{margin}
-use Rattle.verdict.proofs.Margins.{margin-fits}
-use Rattle.verdict.proofs.Told.{told-plain, told-late}
+use Rattle.std.proofs.Common.{Err}
+use Rattle.files.specs.declared.Fault.{Fault}
+use Rattle.files.specs.Refusals.{refusal_of}
+use Rattle.acceptance.specs.Outcomes.{outcome}
+use Rattle.verdict.proofs.Told.{accepted-told, late-told, plain-told}
 use Rattle.verdict.proofs.weighed.Goals as goal
 
-pub returns-then-refusal-eq0 : goal.returns-then-refusal-eq0
-returns-then-refusal-eq0 c =
-    let args = c.args in
-    let refusal = args.judged.refusal in
-    let none = c.if-refusal-eq0.true in
-    let fits = subst (SFits w32) (sym c.margin_of-margin.ensures) (margin-fits args.bound args.judged.latency c.requires.0 c.requires.1) in
+-- a margin keeps its number in the 32 bits of its field
+kept : {z m : ℤ} → mag z < 2147483648 → z ≡ m → to_z w32 (of_z w32 z) ≡ m
+kept {z} fits is = to_z-of_z w32 z (record { sfits = fits }) ∙ is
+
+pub returns-in-Ok : goal.returns-in-Ok
+unfolding outcome
+returns-in-Ok c =
+    let told = accepted-told c.args.bound c.in-Ok.is in
+    record { outcome = told.0; latency = told.1; margin = kept c.margin_of.type_inv c.margin_of.ensures ∙ told.2 }
+
+pub returns-in-Late : goal.returns-in-Late
+unfolding outcome
+returns-in-Late c =
+    let told = late-told c.args.bound (c.in-Err.is ∙ ap Err c.in-Late.is) in
+    let plain = c.refused-answer.ensures.0 ∙ ap (λ (f : Fault). outcome (refusal_of f)) c.in-Late.is in
+    let margin = kept c.margin_of-answer.type_inv c.margin_of-answer.ensures in
     record {
-      outcome = c.told-outcome.ensures ∙ sym (told-plain refusal args.bound args.judged.latency (λ fifteen. omega (arith, none, fifteen)));
-      latency = sym (if-passed refusal.number args.judged.latency 0 none);
-      margin = to_z-of_z w32 c.margin_of-margin.result fits ∙
-          (c.margin_of-margin.ensures ∙ sym (if-passed refusal.number (margin args.bound args.judged.latency) (pos 0) none));
+      outcome = (λ i. record { number = (plain i).number; place = (plain i).place; latency = c.in-Late.latency; margin = margin i }) ∙ told.0;
+      latency = c.refused-answer.ensures.1 ∙ told.1;
+      margin = c.refused-answer.ensures.2 ∙ told.2;
     }
 
-pub returns-then-refusal-eq15 : goal.returns-then-refusal-eq15
-returns-then-refusal-eq15 c =
-    let args = c.args in
-    let refusal = args.judged.refusal in
-    let some = c.if-refusal-eq0.false in
-    let fits = subst (SFits w32) (sym c.margin_of-margin-then-refusal-eq15.ensures) (margin-fits args.bound args.judged.latency c.requires.0 c.requires.1) in
-    let is = to_z-of_z w32 c.margin_of-margin-then-refusal-eq15.result fits ∙ c.margin_of-margin-then-refusal-eq15.ensures in
+pub returns-in_default : goal.returns-in_default
+returns-in_default c =
+    let told = plain-told c.args.bound c.in-Err.is c.in_default.not-Late in
     record {
-      outcome = (λ i. record { number = refusal.number; place = refusal.place; latency = args.judged.latency; margin = is i }) ∙
-          sym (told-late refusal args.bound args.judged.latency c.if-refusal-eq15.true);
-      latency = sym (if-refused refusal.number args.judged.latency 0 some);
-      margin = sym (if-refused refusal.number (margin args.bound args.judged.latency) (pos 0) some);
-    }
-
-pub returns : goal.returns
-returns c =
-    let args = c.args in
-    let refusal = args.judged.refusal in
-    let some = c.if-refusal-eq0.false in
-    record {
-      outcome = c.refused.ensures.0 ∙ sym (told-plain refusal args.bound args.judged.latency c.if-refusal-eq15.false);
-      latency = c.refused.ensures.1 ∙ sym (if-refused refusal.number args.judged.latency 0 some);
-      margin = c.refused.ensures.2 ∙ sym (if-refused refusal.number (margin args.bound args.judged.latency) (pos 0) some);
+      outcome = c.refused-answer.ensures.0 ∙ told.0;
+      latency = c.refused-answer.ensures.1 ∙ told.1;
+      margin = c.refused-answer.ensures.2 ∙ told.2;
     }

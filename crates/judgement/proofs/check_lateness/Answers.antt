@@ -1,11 +1,13 @@
--- `judgement::late_judgement` meets its contract: the fronts of the lists hold the result's edges and the times, so the latency is the result's.
+-- `judgement::check_lateness` meets its contract: the fronts of the lists hold the result's edges and the times, so the latency is the result's.
+use mathlib.Core.Path.{refl, subst}
 use mathlib.Core.Bool.{true, false}
 use native.Mathlib.Omega.{arith}
 use borrow.Author.Tests.{lt-ltb, le-ltb}
 use Rattle.files.specs.Refusals.{refuse}
 use Rattle.acceptance.proofs.Readings.{graph-within, times-filed, output-there, few-times}
+use Rattle.judgement.specs.Judgement.{Judges}
 use Rattle.judgement.proofs.Judging.{result-sinks, result-delays, result-within, result-ends, late-judged, result-acyclic}
-use Rattle.judgement.proofs.late_judgement.Goals as goal
+use Rattle.judgement.proofs.check_lateness.Goals as goal
 
 pub slice_bounds-latency-end : goal.slice_bounds-latency-end
 slice_bounds-latency-end c = (result-within c.requires.accepted_reading c.requires.made.1).0
@@ -33,8 +35,12 @@ latency-latency-requires c =
 
 pub returns-then-graph-latency : goal.returns-then-graph-latency
 unfolding refuse
-returns-then-graph-latency c = late-judged c.requires.accepted_reading c.requires.made.1 _ c.latency-latency.ensures true (lt-ltb _ _ c.if-graph-latency.true)
+returns-then-graph-latency c =
+    subst (Judges _) (late-judged c.requires.accepted_reading c.requires.made.1 _ c.latency-latency.ensures true (lt-ltb _ _ c.if-graph-latency.true))
+    (record { refusal = refl; latency = refl })
 
 pub returns : goal.returns
 unfolding refuse
-returns c = late-judged c.requires.accepted_reading c.requires.made.1 _ c.latency-latency.ensures false (le-ltb c.args.graph.bound c.latency-latency.result (omega (arith, c.if-graph-latency.false)))
+returns c =
+    subst (Judges _) (late-judged c.requires.accepted_reading c.requires.made.1 _ c.latency-latency.ensures false (le-ltb c.args.graph.bound c.latency-latency.result (omega (arith, c.if-graph-latency.false))))
+    (record { refusal = refl; latency = refl })

@@ -1,9 +1,9 @@
--- `judgement::lost_refusal` meets its contract: the fronts of the lists hold the graph's edges and the result's, so the search by them is that in the result.
+-- `judgement::check_order` meets its contract: the fronts of the lists hold the graph's edges and the result's, so the search by them is that in the result.
 use mathlib.Core.Path.{◌∙◌}
 use native.Mathlib.Omega.{arith}
 use Rattle.acceptance.proofs.Readings.{graph-fronts, graph-within, few-tasks, as-many-edges, few-edges, original-fit}
 use Rattle.judgement.proofs.Judging.{result-sinks, result-delays, held-fit, result-within, lost-is}
-use Rattle.judgement.proofs.lost_refusal.Goals as goal
+use Rattle.judgement.proofs.check_order.Goals as goal
 
 pub slice_bounds-lost_order-end : goal.slice_bounds-lost_order-end
 slice_bounds-lost_order-end c = (graph-within c.requires.accepted_reading).source

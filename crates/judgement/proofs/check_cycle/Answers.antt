@@ -1,9 +1,9 @@
--- `judgement::cycle_refusal` meets its contract: the words hold between which processors paths of the result lead, so the search finds the first proposed edge
+-- `judgement::check_cycle` meets its contract: the words hold between which processors paths of the result lead, so the search finds the first proposed edge
 -- on a cycle of it, if there is one.
 use mathlib.Core.Path.{◌∙◌}
 use native.Mathlib.Omega.{arith}
 use Rattle.judgement.proofs.Judging.{processors-within, processors-small, proposed-fronts, few-proposed, proposed_ends, made, result-sinks, result-joins, result-circled, result-reached, result-within, cycle-is}
-use Rattle.judgement.proofs.cycle_refusal.Goals as goal
+use Rattle.judgement.proofs.check_cycle.Goals as goal
 
 pub slice_bounds-paths_between_processors-end : goal.slice_bounds-paths_between_processors-end
 slice_bounds-paths_between_processors-end c = (result-within c.requires.judgeable.accepted (made c.requires.judgeable c.requires.held_result)).0
