@@ -58,15 +58,13 @@ fn plan_from(graph: GraphReading, first: StageEdges, table: &mut [u16]) -> Graph
     let mut end: [u32; 64] = [0; 64];
     let mut latest: [u32; 64] = [0; 64];
     let order = first_times(graph, &mut end[0..tasks], &mut latest[0..tasks]);
-    let mut source = first.source;
-    let mut sink = first.sink;
-    let mut delay = first.delay;
+    let mut stage = first;
     let last = follow_steps(
         &graph.time[0..tasks],
         first.count as usize,
-        &mut source,
-        &mut sink,
-        &mut delay,
+        &mut stage.source,
+        &mut stage.sink,
+        &mut stage.delay,
         &mut from,
         &mut to,
         &mut counts,
@@ -74,13 +72,7 @@ fn plan_from(graph: GraphReading, first: StageEdges, table: &mut [u16]) -> Graph
         &mut end[0..tasks],
         &mut latest[0..tasks],
     );
-    let count = last.count as u32;
-    let stage = StageEdges {
-        count,
-        source,
-        sink,
-        delay,
-    };
+    stage.count = last.count as u32;
     GraphPlan {
         stage,
         steps: last.steps,
