@@ -2,7 +2,6 @@
 -- its length, its steps and its latency." For every file and list; of a refused call every field that 01 does not name is 0, and the list keeps its
 -- contents.
 use Rattle.std.specs.Prelude.{List, [], ◌∷◌, ℕ, length}
-use Rattle.model.specs.Tasks.{Edge}
 use Rattle.model.specs.Graph.{Graph}
 use Rattle.model.specs.Plan.{plan_of, plan_latency}
 use Rattle.layout.specs.declared.EdgeRecord.{EdgeRecord}
@@ -28,10 +27,6 @@ plan_answer_of s room = record {
   steps = if_passed (plan_refusal s room).number (plan_of (graph_of s)).steps 0;
   latency = if_passed (plan_refusal s room).number (plan_latency (graph_of s)) 0;
 }
-
--- the edges that the call writes: none if it is refused
-unfoldable pub planned_edges : List ℕ → ℕ → List Edge
-planned_edges s room = if_passed (plan_refusal s room).number (plan_of (graph_of s)).list []
 
 -- the lent list after the call: "elements past the written part hold what they held", "Lent buffers keep their contents"
 unfoldable pub plan_after : List ℕ → List EdgeRecord → List EdgeRecord

@@ -2,23 +2,25 @@
 // The call asks nothing of its caller.
 #![tactic(auto)]
 
-ghost use Rattle.std.specs.Prelude.{◌≡◌, List, ◌++◌, ℕ, length};
+ghost use Rattle.std.specs.Prelude.{◌≡◌, List, ◌++◌, ℕ, length, IfOk};
 ghost use Rattle.model.specs.Graph.{count, edges};
 ghost use Rattle.model.specs.Plan.{first_stage};
+ghost use Rattle.files.specs.Files.{graph_of};
+ghost use Rattle.files.specs.Refusals.{refusal_in};
 ghost use Rattle.readings.specs.Working.{graph_in};
 ghost use Rattle.delays.specs.Delays.{delay_table};
 ghost use Rattle.results.specs.Fronts.{HeldFront};
 ghost use Rattle.acceptance.specs.Acceptance.{AcceptedReading};
-ghost use Rattle.stages.specs.Stages.{HeldStage};
-ghost use Rattle.plan.specs.Plan.{plan_answer_of, plan_after, planned_edges, PlanFound};
+ghost use Rattle.plan.specs.Plan.{plan_refusal, plan_answer_of, plan_after, PlanFound};
 
-use acceptance::{Outcome, accept, told, with_room};
+use acceptance::{Outcome, SUCCESS, accept, check_room};
+use files::Fault;
 use first_stage::first_stage;
 use layout::EdgeRecord;
 use prepared::prepare;
 use present::first_times;
 use readings::GraphReading;
-use stages::{StageEdges, blank_stage, fill};
+use stages::{StageEdges, fill};
 use steps::follow_steps;
 
 // The plan of a graph: how many edges it lists, how many steps it took, and the latency of the graph it leads to; 0 if it is refused.
@@ -39,13 +41,6 @@ struct GraphPlan {
     latency: u32,
 }
 
-// What the call answers, and the edges it writes: none if it is refused.
-#[derive(Clone, Copy)]
-struct Decided {
-    answer: PlanAnswer,
-    stage: StageEdges,
-}
-
 // The plan of an accepted graph from its first stage on, by its table of least delays. Not put inline: its lists and those of the first
 // stage are not to be on the stack at once (RESYNC_STACK_BYTES of include/resync.h).
 #[inline(never)]
@@ -63,16 +58,13 @@ fn plan_from(graph: GraphReading, first: StageEdges, table: &mut [u16]) -> Graph
     let mut end: [u32; 64] = [0; 64];
     let mut latest: [u32; 64] = [0; 64];
     let order = first_times(graph, &mut end[0..tasks], &mut latest[0..tasks]);
-    let time = graph.time;
-    let mut source = first.source;
-    let mut sink = first.sink;
-    let mut delay = first.delay;
+    let mut stage = first;
     let last = follow_steps(
-        &time[0..tasks],
+        &graph.time[0..tasks],
         first.count as usize,
-        &mut source,
-        &mut sink,
-        &mut delay,
+        &mut stage.source,
+        &mut stage.sink,
+        &mut stage.delay,
         &mut from,
         &mut to,
         &mut counts,
@@ -80,13 +72,7 @@ fn plan_from(graph: GraphReading, first: StageEdges, table: &mut [u16]) -> Graph
         &mut end[0..tasks],
         &mut latest[0..tasks],
     );
-    let count = last.count as u32;
-    let stage = StageEdges {
-        count,
-        source,
-        sink,
-        delay,
-    };
+    stage.count = last.count as u32;
     GraphPlan {
         stage,
         steps: last.steps,
@@ -101,14 +87,11 @@ fn planned(graph: GraphReading) -> GraphPlan
 {
     let tasks = graph.tasks as usize;
     let end = tasks + graph.edges as usize;
-    let source = graph.source;
-    let sink = graph.sink;
-    let delay = graph.delay;
     let mut table: [u16; 4096] = [0; 4096];
     let first = first_stage(
-        &source[0..end],
-        &sink[0..end],
-        &delay[0..end],
+        &graph.source[0..end],
+        &graph.sink[0..end],
+        &graph.delay[0..end],
         tasks,
         &mut table,
     );
@@ -116,36 +99,13 @@ fn planned(graph: GraphReading) -> GraphPlan
 }
 
 // Everything but the writing, for a list of so many records.
-fn decide(graph: &[u8], room: usize) -> Decided
-    ensures answer { result.answer ≡ plan_answer_of graph.now room }
-    ensures stage { HeldStage result.stage (planned_edges graph.now room) }
+fn decide(graph: &[u8], room: usize) -> Result<GraphPlan, Fault>
+    ensures refusal { refusal_in result ≡ plan_refusal graph.now room }
+    ensures plan { IfOk result (λ p. PlanFound (graph_of graph.now) p) }
 {
-    let accepted = accept(graph);
-    let reading = accepted.reading;
-    let refusal = with_room(accepted.refusal, reading.edges as usize, room);
-    let outcome = told(refusal);
-    if refusal.number != 0 {
-        let none = blank_stage();
-        let answer = PlanAnswer {
-            outcome,
-            length: 0,
-            steps: 0,
-            latency: 0,
-        };
-        return Decided {
-            answer,
-            stage: none,
-        };
-    }
-    let plan = planned(reading);
-    let stage = plan.stage;
-    let answer = PlanAnswer {
-        outcome,
-        length: stage.count,
-        steps: plan.steps,
-        latency: plan.latency,
-    };
-    Decided { answer, stage }
+    let accepted = accept(graph)?;
+    check_room(accepted.reading.edges as usize, room)?;
+    Ok(planned(accepted.reading))
 }
 
 // The plan: the edges that take the place of the feedforward ones, at the front of the list, and how many, after how many steps, with
@@ -154,7 +114,21 @@ pub fn plan(graph: &[u8], edges: &mut [EdgeRecord]) -> PlanAnswer
     ensures answer { result ≡ plan_answer_of graph.now (length edges.old) }
     ensures edges { edges.new ≡ plan_after graph.now edges.old }
 {
-    let decided = decide(graph, edges.len());
-    fill(edges, decided.stage);
-    decided.answer
+    match decide(graph, edges.len()) {
+        Ok(plan) => {
+            fill(edges, plan.stage);
+            PlanAnswer {
+                outcome: SUCCESS,
+                length: plan.stage.count,
+                steps: plan.steps,
+                latency: plan.latency,
+            }
+        }
+        Err(fault) => PlanAnswer {
+            outcome: fault.into(),
+            length: 0,
+            steps: 0,
+            latency: 0,
+        },
+    }
 }

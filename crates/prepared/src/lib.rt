@@ -39,13 +39,10 @@ pub fn prepare<'a>(
     spread(&table[0..size], tasks, 1, tasks, from);
     spread(&table[0..size], 1, tasks, tasks, to);
     let count = first.count as usize;
-    let source = first.source;
-    let sink = first.sink;
-    let delay = first.delay;
     count_edges(
-        &source[0..count],
-        &sink[0..count],
-        &delay[0..count],
+        &first.source[0..count],
+        &first.sink[0..count],
+        &first.delay[0..count],
         from,
         to,
         tasks,

@@ -1,20 +1,33 @@
--- `plan::decide` meets its contract: refused, zeros and no edges; otherwise what `planned` gives for the graph that was read.
-use Rattle.plan.proofs.Answers.{answer-refused, stage-refused, reading-accepted, answer-planned, stage-planned}
+-- `plan::decide` meets its contract: the fault of an unaccepted file, else 16 by the room, else what `planned` gives for the graph that was read.
+use mathlib.Core.Path.{◌∙◌}
+use Rattle.std.proofs.lemmas.Result.{IfOk-from_err}
+use Rattle.files.proofs.First.{handed_back}
+use Rattle.acceptance.proofs.AcceptedFiles.{accepted-reading}
+use Rattle.plan.proofs.Answers.{file-refused, room-judged, plan-found}
 use Rattle.plan.proofs.decide.Goals as goal
 
-pub returns-then-refusal-ne0 : goal.returns-then-refusal-ne0
-returns-then-refusal-ne0 c =
+pub returns-in_err-accepted : goal.returns-in_err-accepted
+returns-in_err-accepted c =
+    let back = c.from_residual.ensures in
     record {
-      answer = answer-refused c.args.graph.now c.args.room c.accept-accepted.ensures c.with_room-refusal.ensures c.if-refusal-ne0.true c.told-outcome.ensures;
-      stage = stage-refused c.args.graph.now c.args.room c.accept-accepted.ensures c.with_room-refusal.ensures c.if-refusal-ne0.true c.blank_stage-none.ensures.count_value c.blank_stage-none.ensures.source_len;
+      refusal = handed_back _ _ back.1 ∙ file-refused c.args.graph.now c.args.room _ c.in_err-accepted.ensures.refusal;
+      plan = IfOk-from_err _ _ back.0;
     }
 
-pub planned-plan-requires : goal.planned-plan-requires
-planned-plan-requires c = reading-accepted c.args.graph.now c.args.room c.accept-accepted.ensures c.with_room-refusal.ensures c.if-refusal-ne0.false
+pub returns-in_err-check_room : goal.returns-in_err-check_room
+returns-in_err-check_room c =
+    let back = c.from_residual-in_err-check_room.ensures in
+    record {
+      refusal = handed_back _ _ back.1 ∙ room-judged c.args.graph.now c.args.room c.in_ok-accepted.ensures c.in_err-check_room.ensures;
+      plan = IfOk-from_err _ _ back.0;
+    }
+
+pub planned-requires : goal.planned-requires
+planned-requires c = accepted-reading c.args.graph.now c.in_ok-accepted.ensures
 
 pub returns : goal.returns
 returns c =
     record {
-      answer = answer-planned c.args.graph.now c.args.room c.accept-accepted.ensures c.with_room-refusal.ensures c.if-refusal-ne0.false c.planned-plan.ensures c.told-outcome.ensures;
-      stage = stage-planned c.args.graph.now c.args.room c.accept-accepted.ensures c.with_room-refusal.ensures c.if-refusal-ne0.false c.planned-plan.ensures;
+      refusal = room-judged c.args.graph.now c.args.room c.in_ok-accepted.ensures c.in_ok-check_room.ensures;
+      plan = plan-found c.args.graph.now c.args.room c.in_ok-accepted.ensures c.planned.ensures;
     }

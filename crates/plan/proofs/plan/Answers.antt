@@ -1,18 +1,29 @@
--- `plan::plan` meets its contract: `decide` is called on the bytes and the list's length, and `fill` writes the stage decided, whose edges fit the list.
-use mathlib.Core.Path.{sym, ap, subst, ◌∙◌}
-use Prim.Native.Nat.{ℕ, ◌≤◌}
+-- `plan::plan` meets its contract: what was decided on the bytes and the list's length is told; `fill` writes the edges of a plan, which fit the list.
+use mathlib.Core.Path.{refl, ◌∙◌}
 use lib.ListN.{length}
-use Rattle.stages.specs.Stages.{written_into}
-use Rattle.plan.proofs.Answers.{edges_fit, list-after}
+use Rattle.acceptance.specs.Outcomes.{outcome}
+use Rattle.stages.proofs.Staged.{front-few}
+use Rattle.plan.proofs.Answers.{refused-answer, passed-answer, edges_fit, list-written, list-kept}
 use Rattle.plan.proofs.plan.Goals as goal
 
 pub fill-requires : goal.fill-requires
 fill-requires c =
-    let held = c.decide-decided.ensures.stage in
-    let room = length c.args.edges.now in
-    (subst (λ (m : ℕ). m ≤ room) (sym held.as_many) (edges_fit c.args.graph.now room), held.few)
+    let decided = c.in-Ok.ensures in
+    (edges_fit c.args.graph.now (length c.args.edges.now) decided.refusal decided.plan, front-few decided.plan.held)
 
-pub returns-clause-edges : goal.returns-clause-edges
-returns-clause-edges c =
-    c.fill.ensures ∙
-    (ap (written_into c.args.edges.now) c.decide-decided.ensures.stage.held ∙ list-after c.args.graph.now c.args.edges.now)
+pub returns-in-Ok : goal.returns-in-Ok
+unfolding outcome
+returns-in-Ok c =
+    let decided = c.in-Ok.ensures in
+    record {
+      answer = passed-answer c.args.graph.now (length c.args.edges.now) decided.refusal decided.plan refl;
+      edges = c.fill.ensures ∙ list-written c.args.graph.now c.args.edges.now decided.refusal decided.plan;
+    }
+
+pub returns-in-Err : goal.returns-in-Err
+returns-in-Err c =
+    let is = c.in-Err.ensures.refusal in
+    record {
+      answer = refused-answer c.args.graph.now (length c.args.edges.now) c.in-Err.fault is c.into.ensures;
+      edges = list-kept c.args.graph.now c.args.edges.now c.in-Err.fault is;
+    }

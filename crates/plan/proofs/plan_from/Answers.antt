@@ -55,8 +55,8 @@ slice_bounds-latest-end-2 c = row_kept c.requires.accepted_reading c.first_times
 pub follow_steps-last-requires : goal.follow_steps-last-requires
 follow_steps-last-requires c = (_, (begun c.requires.accepted_reading c.first_times-order.new.end c.first_times-order.new.latest _ _ c.requires.held_front c.prepare.ensures c.first_times-order.ensures.ordered c.first_times-order.ensures.timed))
 
-pub overflow_cast-count : goal.overflow_cast-count
-overflow_cast-count c = omega (arith, front-few (c.follow_steps-last.ensures _ (begun c.requires.accepted_reading c.first_times-order.new.end c.first_times-order.new.latest _ _ c.requires.held_front c.prepare.ensures c.first_times-order.ensures.ordered c.first_times-order.ensures.timed)).held)
+pub overflow_cast-stage : goal.overflow_cast-stage
+overflow_cast-stage c = omega (arith, front-few (c.follow_steps-last.ensures _ (begun c.requires.accepted_reading c.first_times-order.new.end c.first_times-order.new.latest _ _ c.requires.held_front c.prepare.ensures c.first_times-order.ensures.ordered c.first_times-order.ensures.timed)).held)
 
 pub shape_of-table : goal.shape_of-table
 shape_of-table c = c.prepare.auto.table
