@@ -98,13 +98,13 @@ fn check_schedule<'a>(
     let tasks = time.len();
     let mut start: [u32; 64] = [0; 64];
     let turn = first_turn(source, sink, delay, time, input, &mut start[0..tasks]);
-    if turn.cyclic {
+    let Some(reached) = turn.reached else {
         return Err(Fault::ZeroCycle);
-    }
+    };
     if !turn.free {
         return Err(Fault::InputWaits);
     }
-    if !is_reached(turn.reached, input, output) {
+    if !is_reached(reached, input, output) {
         return Err(Fault::NotJoined);
     }
     let latency = start[output] + time[output] as u32;

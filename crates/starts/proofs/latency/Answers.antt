@@ -9,7 +9,7 @@ use Rattle.model.specs.Compute.{zero_cycle}
 use Rattle.records.specs.Columns.{edges_of, at}
 use Rattle.turn.specs.Turn.{Turned}
 use Rattle.starts.proofs.Limits.{end-as-u32}
-use Rattle.starts.proofs.First.{turn-sized, front-start, turn-latency}
+use Rattle.starts.proofs.First.{turn-made, turn-sized, front-start, turn-latency}
 use Rattle.starts.proofs.Fronts.{front_length, front_at}
 use Rattle.starts.proofs.latency.Goals as goal
 use Rattle.starts.proofs.latency.Goals.{Start, After-first_turn}
@@ -29,10 +29,11 @@ begin t = (goal.at.After-first_turn t).Start
 
 turned : (t : After-first_turn) →
     let s = begin t in
-    Turned (length s.args.time.now) (edges s) (at s.args.time.now) s.args.output t.first_turn.result.reached (blank s) t.first_turn.new.row
+    (reached : ℕ) × Turned (length s.args.time.now) (edges s) (at s.args.time.now) s.args.output reached (blank s) t.first_turn.new.row
 turned t =
     let s = begin t in
-    turn-sized (blank-long s) (t.first_turn.ensures.turned (t.first_turn.ensures.cyclic ∙ (ap (λ (m : ℕ). zero_cycle m (edges s)) (blank-long s) ∙ s.requires.delay_value)))
+    let made = turn-made _ (edges s) (at s.args.time.now) s.args.output (blank s) t.first_turn.new.row _ (ap (λ (m : ℕ). zero_cycle m (edges s)) (blank-long s) ∙ s.requires.delay_value) t.first_turn.ensures.turned in
+    (made.0, turn-sized (blank-long s) made.1)
 
 row-long : (t : After-first_turn) → length t.first_turn.new.row ≡ length (begin t).args.time.now
 row-long t = t.first_turn.ensures.size ∙ blank-long (begin t)
@@ -52,7 +53,7 @@ pub overflow_add-result : goal.overflow_add-result
 unfolding at
 overflow_add-result c =
     let t = (goal.at.overflow_add-result c).After-first_turn in
-    let low = (turned t).low c.args.output c.requires.time_len_bound.1 in
+    let low = (turned t).1.low c.args.output c.requires.time_len_bound.1 in
     end-as-u32 (subst (λ (x : ℕ). x ≤ 268435456) (sym (front-start c.first_turn.new.row _ (row-long t) c.args.output c.requires.time_len_bound.1)) (omega (arith, low, c.requires.time_len_bound.0))) (c.type_inv.time _)
 
 pub returns : goal.returns
@@ -60,4 +61,4 @@ unfolding at
 returns c =
     let t = (goal.at.returns c).After-first_turn in
     ap (λ (x : ℕ). x + at c.args.time.now c.args.output) (front-start c.first_turn.new.row _ (row-long t) c.args.output c.requires.time_len_bound.1) ∙
-    turn-latency c.requires.ends c.requires.delay_value (λ v l. (c.requires.file_times v l).0) (turned t) (front_at 64 0 refl c.requires.time_len_bound.0) c.args.output c.requires.time_len_bound.1
+    turn-latency c.requires.ends c.requires.delay_value (λ v l. (c.requires.file_times v l).0) (turned t).1 (front_at 64 0 refl c.requires.time_len_bound.0) c.args.output c.requires.time_len_bound.1
