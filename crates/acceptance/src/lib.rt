@@ -14,7 +14,6 @@ ghost use Rattle.acceptance.specs.Outcomes.{outcome, room_refusal};
 use files::{PASSED, Refusal};
 use readings::{GraphReading, read_graph};
 use turn::first_turn;
-use waits::no_starts;
 
 // A graph file after all checks up to 12: the refusal, the latency of an accepted graph (0 if refused), and the file as read. The
 // reading's own refusal is of 1 to 8 only, so a graph that 9 to 12 refuse is still in it.
@@ -97,8 +96,7 @@ fn check_schedule<'a>(
     ensures latency { result.latency ≡ if_passed result.refusal.number (latency (length time.now) (edges_of source.now sink.now delay.now) (at time.now) output) 0 }
 {
     let tasks = time.len();
-    let starts = no_starts();
-    let mut start = starts.start;
+    let mut start: [u32; 64] = [0; 64];
     let turn = first_turn(source, sink, delay, time, input, &mut start[0..tasks]);
     if turn.cyclic {
         return Checked {

@@ -8,16 +8,11 @@ ghost use Rattle.bits.specs.Bits.{field};
 
 pub use reader::Reader;
 
-// A byte as a wider number, 0 past the end.
-fn byte_at(bytes: &[u8], index: usize) -> u64
-    ensures value { result ≡ get_or bytes.now index 0 }
-    ensures upper_bound { result < 256 }
+// A byte, 0 past the end.
+fn byte_at(bytes: &[u8], index: usize) -> u8
+    ensures { result ≡ get_or bytes.now index 0 }
 {
-    if index < bytes.len() {
-        bytes[index] as u64
-    } else {
-        0
-    }
+    bytes.get(index).copied().unwrap_or(0)
 }
 
 // Four bytes as one number, the first the most significant: the field of 32 bits from the first byte's start.
@@ -25,10 +20,13 @@ fn four_at(bytes: &[u8], index: usize) -> u64
     requires { index + 3 < 2 ^ 64 }
     ensures { result ≡ field bytes.now (index * 8) 32 }
 {
-    let one = byte_at(bytes, index);
-    let two = (one << 8) | byte_at(bytes, index + 1);
-    let three = (two << 8) | byte_at(bytes, index + 2);
-    (three << 8) | byte_at(bytes, index + 3)
+    let four = [
+        byte_at(bytes, index),
+        byte_at(bytes, index + 1),
+        byte_at(bytes, index + 2),
+        byte_at(bytes, index + 3),
+    ];
+    u64::from(u32::from_be_bytes(four))
 }
 
 // The field of `width` bits from a bit position, by shifts and masks, across byte ends. Bits past the end count 0.

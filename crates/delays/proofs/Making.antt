@@ -30,6 +30,5 @@ module _ {n a : ℕ} (inner : a < n) (table : List ℕ) (room : n * n ≤ length
       put-part (a * n) (a * n + n) (λ b. entry (least_delay n es a b)) table (omega arith) count (made ∙ ap (λ (k : ℕ). delay_row k es a) part-size)
 
 -- a row of its own, in the front of a list that has room for 64 numbers
-pub front-size : {n : ℕ} → n ≤ 64 → length {A = ℕ} (take (n - 0) (replicate 64 0)) ≡ n
-front-size {n} few =
-    length-take-le (n - 0) (replicate 64 0) (let room = length-replicate {A = ℕ} 64 0 in omega (arith, few, room)) ∙ (let same : n - 0 ≡ n = omega arith in same)
+pub front-size : {n : ℕ} → n ≤ 64 → length {A = ℕ} (take n (replicate 64 0)) ≡ n
+front-size {n} few = length-take-le n (replicate 64 0) (omega (arith, few, length-replicate {A = ℕ} 64 0))

@@ -5,10 +5,11 @@ use mathlib.Core.Logic.{◌⊎◌, inl, inr}
 use mathlib.Core.Bool.{Bool, true, cond}
 use mathlib.Core.List.{List, [], ◌∷◌}
 use mathlib.Core.Option.{Option, none, some}
-use Prim.Native.Nat.{ℕ, zero, suc, ◌+◌, ◌*◌, ◌≤◌, ◌<◌, min}
+use Prim.Native.Nat.{ℕ, zero, suc, ◌+◌, ◌-◌, ◌*◌, ◌≤◌, ◌<◌, min}
 use native.Mathlib.Nat.{not-suc-le-zero}
 use native.Mathlib.Omega.{arith}
 use lib.ListN.{length, get_or, set, replicate, length-set, length-replicate, get_or-replicate, get_or-eq_default}
+use Rattle.std.proofs.Common.{take, drop, length-take, length-drop, get_or-take, get_or-drop}
 use lib.Seq.{get_or-set_same, get_or-set_other, ext_get_or}
 use Rattle.model.specs.Tasks.{Edge, ◌∈◌}
 use Rattle.model.specs.Paths.{total, Walk, stop, step, Path, Least, smallest, no-path}
@@ -156,16 +157,6 @@ module _ {row seen : List ℕ} {u : ℕ} (inner : u < 64) (row_low : Low row) (s
             go (inl past) = let none = get_or-eq_default after 0 {n = i} (omega (arith, also.low.size)) in omega arith
             go (inr l) = omega (arith, also.each i l)
 
--- one task more that has not fallen since it was scanned
-pub level-more :
-    {from u : ℕ} (row seen : List ℕ) → ((v : ℕ) → from ≤ v → v < u → get_or seen v 0 ≤ get_or row v 0) → get_or seen u 0 ≤ get_or row u 0
-    → (v : ℕ) → from ≤ v → v < u + 1 → get_or seen v 0 ≤ get_or row v 0
-level-more {from} {u} row seen old level v k l = go (order u v)
-  where
-    go : (u ≤ v) ⊎ (v < u) → get_or seen v 0 ≤ get_or row v 0
-    go (inl last) = let same : u ≡ v = omega arith in subst (λ (x : ℕ). get_or seen x 0 ≤ get_or row x 0) same level
-    go (inr earlier) = old v k earlier
-
 -- numbers that no edge betters, neither one out of a task nor one after the number of its source, are at most the delays of paths out of that task
 module _
     {es : List Edge} {a : ℕ} (f : ℕ → ℕ) (direct : (e : Edge) → e ∈ es → e.source ≡ a → f e.sink ≤ e.delay)
@@ -191,6 +182,13 @@ module _
             omega arith
 
 -- ── A row ──
+
+-- a part of 64 numbers, in a list of its own
+pub row-copied : {rows row : List ℕ} {start : ℕ} → start + 64 ≤ length rows → row ≡ take (start + 64 - start) (drop start rows) → RowCopied rows start row
+row-copied {rows} {row} {start} room same = record {
+  size = ap length same ∙ simp (length-take, length-drop) (omega arith);
+  each = λ b l. ap (λ (xs : List ℕ). get_or xs b 0) same ∙ (let below : b < start + 64 - start = omega arith in rw (get_or-take, get_or-drop));
+}
 
 module _ {n done a : ℕ} {es : List Edge} {known : List ℕ} (square : Known n es done known) (inner : a < n) where
   -- what is known out of the task itself

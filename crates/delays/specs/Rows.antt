@@ -1,5 +1,5 @@
 -- Only for contracts inside: delays while rows are worked out, in rows of 64 numbers, 16,383 where there is no path.
-use Rattle.std.specs.Prelude.{◌≡◌, true, cond, List, [], ◌∷◌, ℕ, ◌+◌, ◌*◌, ◌≤◌, ◌<◌, min, eqb, length, get_or}
+use Rattle.std.specs.Prelude.{◌≡◌, true, cond, Option, Some, None, List, [], ◌∷◌, ℕ, ◌+◌, ◌*◌, ◌≤◌, ◌<◌, min, eqb, length, get_or}
 use Rattle.model.specs.Tasks.{Edge, ◌∈◌}
 use Rattle.model.specs.Paths.{Path}
 use Rattle.reach.specs.Reach.{bit}
@@ -72,11 +72,10 @@ pub record Scanned (known : List ℕ) (done u : ℕ) (row seen row_after seen_af
   pub less : sum seen_after < sum seen
   pub ways : (n : ℕ) (es : List Edge) (a : ℕ) → u < n → Known n es done known → Seen es a row seen → Seen es a row_after seen_after
 
--- u is a task below n, and not below a number, whose entry has fallen below what was seen of it; or it is n, and there is none
-pub record Unscanned (n from : ℕ) (row seen : List ℕ) (u : ℕ) : Type 0 where
-  pub below : u ≤ n
-  pub one : u < n → get_or row u 0 < get_or seen u 0
-  pub none : n ≤ u → (v : ℕ) → from ≤ v → v < n → get_or seen v 0 ≤ get_or row v 0
+-- a task below n whose entry has fallen below what was seen of it; none only if no task below n from a number on has such an entry
+abbrev pub Unscanned : ℕ → ℕ → List ℕ → List ℕ → Option ℕ → Type 0
+Unscanned n from row seen (Some u) = (u < n) × (get_or row u 0 < get_or seen u 0)
+Unscanned n from row seen None = (v : ℕ) → from ≤ v → v < n → get_or seen v 0 ≤ get_or row v 0
 
 -- an entry as a finished row has it
 unfoldable pub widened : ℕ → ℕ

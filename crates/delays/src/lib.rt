@@ -30,37 +30,12 @@ pub fn has_path(table: &[u16], tasks: usize, from: usize, to: usize) -> bool
     table[from * tasks + to] != NO_PATH
 }
 
-// The smaller of two delays.
-pub fn lesser(a: u16, b: u16) -> u16
-    ensures { result ≡ min a b }
-{
-    if b < a {
-        return b;
-    }
-    a
-}
-
 // The smaller of two delays below 32,768: by a signed test, for which plain x86-64 has a vector instruction.
 pub fn nearer(a: u16, b: u16) -> u16
     requires { (a ≤ 32767) × (b ≤ 32767) }
     ensures { result ≡ min a b }
 {
-    if (b as i16) < (a as i16) {
-        return b;
-    }
-    a
-}
-
-// Copies a row of 64 numbers into a list of its own.
-pub fn copy_row(rows: &[u16], start: usize, row: &mut [u16])
-    requires { (start + 64 ≤ length rows.now) × (length row.old ≡ 64) }
-    ensures { RowCopied rows.now start row.new }
-{
-    let mut b = 0;
-    while b < WIDTH {
-        row[b] = rows[start + b];
-        b += 1;
-    }
+    if (b as i16) < (a as i16) { b } else { a }
 }
 
 // Takes the delay of the least edge between each two tasks into a square where no edge is yet.
@@ -70,11 +45,9 @@ pub fn take_steps<'a>(source: &'a [u8], sink: &'a [u8], delay: &'a [u8], square:
     requires square_value { square.old ≡ replicate 4096 16383 }
     ensures { StepsOf (edges_of source.now sink.now delay.now) square.new }
 {
-    let mut j = 0;
-    while j < source.len() {
+    for j in 0..source.len() {
         let at = source[j] as usize * WIDTH + sink[j] as usize;
-        square[at] = lesser(square[at], delay[j] as u16);
-        j += 1;
+        square[at] = square[at].min(delay[j] as u16);
     }
 }
 
@@ -84,10 +57,8 @@ fn relax(known: &[u16], start: usize, way: u16, row: &mut [u16])
     requires by_index { (b : ℕ) → b < 64 → get_or known.now (start + b) 0 ≤ 16383 }
     ensures { Relaxed known.now start way row.old row.new }
 {
-    let mut b = 0;
-    while b < WIDTH {
+    for b in 0..WIDTH {
         row[b] = nearer(row[b], way + known[start + b]);
-        b += 1;
     }
 }
 
@@ -105,41 +76,27 @@ fn scan<'a>(known: &[u16], done: u64, u: usize, row: &'a mut [u16], seen: &'a mu
     }
 }
 
-// The first task from a number on whose entry has fallen below what was seen of it; the number of tasks if there is none.
-fn unscanned_from<'a>(row: &'a [u16], seen: &'a [u16], from: usize, tasks: usize) -> usize
+// The first task from a number on whose entry has fallen below what was seen of it.
+fn unscanned_from<'a>(row: &'a [u16], seen: &'a [u16], from: usize, tasks: usize) -> Option<usize>
     requires { (from ≤ tasks) × (tasks ≤ length row.now) × (tasks ≤ length seen.now) }
     ensures { Unscanned tasks from row.now seen.now result }
 {
-    let mut u = from;
-    while u < tasks {
-        if row[u] < seen[u] {
-            return u;
-        }
-        u += 1;
-    }
-    tasks
+    (from..tasks).find(|u| row[*u] < seen[*u])
 }
 
 // The next such task, round the end.
-fn next_unscanned<'a>(row: &'a [u16], seen: &'a [u16], from: usize, tasks: usize) -> usize
+fn next_unscanned<'a>(row: &'a [u16], seen: &'a [u16], from: usize, tasks: usize) -> Option<usize>
     requires { (from ≤ tasks) × (tasks ≤ length row.now) × (tasks ≤ length seen.now) }
     ensures { Unscanned tasks 0 row.now seen.now result }
 {
-    let u = unscanned_from(row, seen, from, tasks);
-    if u < tasks {
-        return u;
-    }
-    unscanned_from(row, seen, 0, tasks)
+    unscanned_from(row, seen, from, tasks).or_else(|| unscanned_from(row, seen, 0, tasks))
 }
 
 // An entry as a finished row has it.
 fn widen(entry: u16) -> u16
     ensures { result ≡ widened entry }
 {
-    if entry == FAR {
-        return NO_PATH;
-    }
-    entry
+    if entry == FAR { NO_PATH } else { entry }
 }
 
 // The first entries of a row, as many as a list has room for, as a finished row has them.
@@ -148,10 +105,8 @@ fn hand_over(row: &[u16], out: &mut [u16])
     ensures size { length out.new ≡ length out.old }
     ensures each { (b : ℕ) → b < length out.old → get_or out.new b 0 ≡ widened (get_or row.now b 0) }
 {
-    let mut place = 0;
-    while place < out.len() {
+    for place in 0..out.len() {
         out[place] = widen(row[place]);
-        place += 1;
     }
 }
 
@@ -161,13 +116,14 @@ fn least_row(known: &[u16], done: u64, a: usize, row: &mut [u16])
     requires known { (es : List Edge) × Known (length row.old) es done known.now }
     ensures { (es : List Edge) → Known (length row.old) es done known.now → row.new ≡ delay_row (length row.old) es a }
 {
-    let mut lowered: [u16; 64] = [FAR; 64];
-    let mut seen: [u16; 64] = [FAR; 64];
-    copy_row(known, a * WIDTH, &mut lowered);
-    let mut u = next_unscanned(&lowered, &seen, a + 1, row.len());
-    while u < row.len() {
+    let start = a * WIDTH;
+    let mut lowered = [FAR; WIDTH];
+    let mut seen = [FAR; WIDTH];
+    lowered.copy_from_slice(&known[start..start + WIDTH]);
+    let mut from = a + 1;
+    while let Some(u) = next_unscanned(&lowered, &seen, from, row.len()) {
         scan(known, done, u, &mut lowered, &mut seen);
-        u = next_unscanned(&lowered, &seen, u + 1, row.len());
+        from = u + 1;
     }
     hand_over(&lowered, row);
 }
@@ -179,10 +135,8 @@ fn keep_row(row: &[u16], done: u64, a: usize, known: &mut [u16]) -> u64
     ensures known { (es : List Edge) → Known (length row.now) es done known.old → row.now ≡ delay_row (length row.now) es a → Known (length row.now) es result known.new }
 {
     let at = a * WIDTH;
-    let mut b = 0;
-    while b < row.len() {
-        known[at + b] = lesser(row[b], FAR);
-        b += 1;
+    for (b, delay) in row.iter().enumerate() {
+        known[at + b] = (*delay).min(FAR);
     }
     with_bit(done, a)
 }
@@ -207,8 +161,8 @@ pub fn finish_row(a: usize, tasks: usize, done: u64, known: &mut [u16]) -> u64
     if has_bit(done, a) {
         return done;
     }
-    let mut row: [u16; 64] = [0; 64];
-    make_row(done, a, known, &mut row[0..tasks])
+    let mut row = [0; WIDTH];
+    make_row(done, a, known, &mut row[..tasks])
 }
 
 // Makes row a of a table, in its part of the list. Gives which rows of the square are finished then.
@@ -242,12 +196,10 @@ pub fn least_table<'a>(
     requires fit { Fit tasks (edges_of source.now sink.now delay.now) }
     ensures { table.new ≡ delay_table tasks (edges_of source.now sink.now delay.now) ++ drop (tasks * tasks) table.old }
 {
-    let mut known: [u16; 4096] = [FAR; 4096];
+    let mut known = [FAR; 4096];
     take_steps(source, sink, delay, &mut known);
-    let mut done: u64 = 0;
-    let mut a = tasks;
-    while 0 < a {
-        a -= 1;
+    let mut done = 0;
+    for a in (0..tasks).rev() {
         done = fill_row(a, tasks, done, &mut known, table);
     }
 }

@@ -34,12 +34,12 @@ module _ {n : ℕ} (source sink delay : List ℕ) (rs : List Edge) (fit : Fit n 
   held i = order_holds n rs (held_edge source sink delay (n + i))
 
   -- the places of an edge's ends, and its delay
-  pub place : (i : ℕ) → n ≤ 64 → n + i < length source → (get_or source (n + i) 0 < n) × (get_or source (n + i) 0 * 64 + get_or sink (n + i) 0 < 4096) × (get_or delay (n + i) 0 ≤ 255)
-  place i few below = let at = fit_at source sink delay (n + i) fit below in (at.0, omega (arith, at.0, at.1, few), at.2)
+  pub place : (i : ℕ) → n ≤ 64 → i < length source - n → (get_or source (n + i) 0 < n) × (get_or source (n + i) 0 * 64 + get_or sink (n + i) 0 < 4096) × (get_or delay (n + i) 0 ≤ 255)
+  place i few below = let at = fit_at source sink delay (n + i) fit (omega arith) in (at.0, omega (arith, at.0, at.1, few), at.2)
 
-  module _ {done : ℕ} (i : ℕ) {known : List ℕ} (square : Known n rs done known) (below : n + i < length source) where
+  module _ {done : ℕ} (i : ℕ) {known : List ℕ} (square : Known n rs done known) (below : i < length source - n) where
     at : (get_or source (n + i) 0 < n) × (get_or sink (n + i) 0 < n) × (get_or delay (n + i) 0 ≤ 255)
-    at = fit_at source sink delay (n + i) fit below
+    at = fit_at source sink delay (n + i) fit (omega arith)
 
     few : n ≤ 64
     few = square.few
@@ -62,12 +62,12 @@ module _ {n : ℕ} (source sink delay : List ℕ) (rs : List Edge) (fit : Fit n 
   -- ── The first order lost ──
 
   pub first-lost :
-      (j : ℕ) → n + j < length source → ((i : ℕ) → i < j → held i ≡ true) → held j ≡ false
+      (j : ℕ) → j < length source - n → ((i : ℕ) → i < j → held i ≡ true) → held j ≡ false
       → record { number = 14; place = suc j } ≡ lost_from n rs source sink delay
   unfolding lost_from
   first-lost j below kept lost =
-      sym (found_first (length source - n) 14 (λ i. not (held i)) (λ z. omega arith) j (omega arith) (λ i earlier. ap not (kept i earlier)) (ap not lost))
+      sym (found_first (length source - n) 14 (λ i. not (held i)) (λ z. omega arith) j below (λ i earlier. ap not (kept i earlier)) (ap not lost))
 
-  pub none-lost : (j : ℕ) → length source ≤ n + j → ((i : ℕ) → i < j → held i ≡ true) → not_refused ≡ lost_from n rs source sink delay
+  pub none-lost : ((i : ℕ) → i < length source - n → held i ≡ true) → not_refused ≡ lost_from n rs source sink delay
   unfolding lost_from
-  none-lost j all kept = sym (found_nowhere (length source - n) 14 (λ i. not (held i)) (λ i earlier. ap not (kept i (omega arith))))
+  none-lost kept = sym (found_nowhere (length source - n) 14 (λ i. not (held i)) (λ i earlier. ap not (kept i earlier)))

@@ -46,15 +46,13 @@ fn cyclic_edge<'a>(
     requires by_index_2 { (j : ℕ) → j < length source.now → (at source.now j < length processor.now) × (at sink.now j < length processor.now) }
     ensures { (rs : List Edge) → ReachesOn (length processor.now) rs processor.now words.now → result ≡ first_cyclic (length processor.now) rs source.now sink.now }
 {
-    let mut j = 0;
-    while j < source.len() {
+    for j in 0..source.len() {
         let from = processor_of(processor, source[j]);
         let to = processor_of(processor, sink[j]);
         if leads_to(words, to, from) {
             let place = j as u32 + 1;
             return Refusal { number: 13, place };
         }
-        j += 1;
     }
     PASSED
 }
@@ -80,8 +78,7 @@ fn lost_order<'a>(
     let mut known: [u16; 4096] = [FAR; 4096];
     take_steps(result_source, result_sink, result_delay, &mut known);
     let mut done: u64 = 0;
-    let mut j = 0;
-    while tasks + j < source.len() {
+    for j in 0..source.len() - tasks {
         let from = source[tasks + j] as usize;
         let at = from * WIDTH + sink[tasks + j] as usize;
         let most = delay[tasks + j] as u16;
@@ -94,7 +91,6 @@ fn lost_order<'a>(
                 };
             }
         }
-        j += 1;
     }
     PASSED
 }

@@ -42,10 +42,6 @@ module _ (s : List ℕ) (at : ℕ) where
   unfolding edge_at
   source_below = field_below s at 6
 
-  pub sink_below : (edge_at s at).sink < 64
-  unfolding edge_at
-  sink_below = field_below s (at + 6) 6
-
   pub delay-below : (edge_at s at).delay < 256
   unfolding edge_at
   delay-below = field_below s (at + 12) 8

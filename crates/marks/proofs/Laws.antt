@@ -3,16 +3,17 @@
 use mathlib.Core.Path.{◌≡◌, refl, sym, ap, ◌∙◌}
 use mathlib.Core.Logic.{◌⊎◌, inl, inr}
 use mathlib.Core.Bool.{Bool, false}
-use mathlib.Core.List.{append-nil}
+use mathlib.Core.List.{List, [], ◌∷◌, append-nil}
 use Prim.Native.Nat.{ℕ, zero, suc, ◌+◌, ◌-◌, ◌*◌, ◌/◌, ◌%◌, ◌^◌, ◌≤◌, ◌<◌}
 use native.Mathlib.Nat.{le_refl, add-zero, add-suc}
 use native.Mathlib.Omega.{arith}
 use lib.Count.{ones}
-use lib.ListN.{get_or}
+use lib.ListN.{length, get_or}
+use Rattle.std.specs.List.{sum_by}
 use Rattle.model.specs.Lists.{put, counted, sum_over}
 use Rattle.model.proofs.Basics.{order, sum_ones}
 use Rattle.marks.specs.declared.Marks.{Marks}
-use Rattle.marks.specs.Marks.{number, word_of, marks_of, bit_of, mark_at, FirstSet, set_below, places_below}
+use Rattle.marks.specs.Marks.{number, word_of, marks_of, bit_of, mark_at, set_below, places_below}
 use Rattle.marks.proofs.Digits.{digit_at, digit-of, bit-digit, ones-digits}
 
 -- ── Marks put into words ──
@@ -98,18 +99,17 @@ mark-in-word marks w j l =
     let bit : (64 * w + j) % 64 ≡ j = omega arith in
     rw (word, bit)
 
--- no mark is set up to the first bit set in a word from a bit on, if none is set up to that bit
+-- no mark is set up to a bit of a word, if none is set up to an earlier one and no bit of the word between
 pub none-to-bit :
-    (marks : Marks) (after w from bit : ℕ) → FirstSet (bit_of (get_or marks.words w 0)) from 64 bit
+    (marks : Marks) (after w from bit : ℕ) → bit ≤ 64 → ((i : ℕ) → from ≤ i → i < bit → bit_of (get_or marks.words w 0) i ≡ false)
     → ((i : ℕ) → after ≤ i → i < 64 * w + from → mark_at marks i ≡ false) → (i : ℕ) → after ≤ i → i < 64 * w + bit → mark_at marks i ≡ false
-none-to-bit marks after w from bit first before i l h = go (order (64 * w + from) i)
+none-to-bit marks after w from bit in-word between before i l h = go (order (64 * w + from) i)
   where
     go : (64 * w + from ≤ i) ⊎ (i < 64 * w + from) → mark_at marks i ≡ false
     go (inl k) =
         let j : ℕ = i - 64 * w in
         let place : i ≡ 64 * w + j = omega arith in
-        let in-word : bit ≤ 64 = first.within in
-        ap (mark_at marks) place ∙ (mark-in-word marks w j (omega arith) ∙ first.none_before j (omega arith) (omega arith))
+        ap (mark_at marks) place ∙ (mark-in-word marks w j (omega arith) ∙ between j (omega arith) (omega arith))
     go (inr k) = before i l k
 
 word_count :
@@ -123,16 +123,25 @@ word_count marks w fits =
 first_block : (marked : ℕ → Bool) → set_below 64 marked ≡ set_below 64 (λ j. marked (64 * 0 + j))
 first_block marked = set-below-same 64 marked (λ j. marked (64 * 0 + j)) (λ j l. let same : j ≡ 64 * 0 + j = omega arith in ap marked same)
 
+sum_four : (f : ℕ → ℕ) (xs : List ℕ) → length xs ≡ 4 → sum_by f xs ≡ f (get_or xs 0 0) + f (get_or xs 1 0) + f (get_or xs 2 0) + f (get_or xs 3 0)
+sum_four f (a ∷ b ∷ c ∷ d ∷ []) four = omega arith
+sum_four f [] four = absurd (omega arith)
+sum_four f (a ∷ []) four = absurd (omega arith)
+sum_four f (a ∷ b ∷ []) four = absurd (omega arith)
+sum_four f (a ∷ b ∷ c ∷ []) four = absurd (omega arith)
+sum_four f (a ∷ b ∷ c ∷ d ∷ e ∷ xs) four = absurd (omega arith)
+
+-- the marks set are the ones of the four words
 pub count-words :
-    (marks : Marks) → ((w : ℕ) → get_or marks.words w 0 < 2 ^ 64)
-    → set_below 256 (mark_at marks) ≡ ones (get_or marks.words 0 0) + ones (get_or marks.words 1 0) + ones (get_or marks.words 2 0) + ones (get_or marks.words 3 0)
-count-words marks fits =
+    (marks : Marks) → length marks.words ≡ 4 → ((w : ℕ) → get_or marks.words w 0 < 2 ^ 64) → sum_by ones marks.words ≡ set_below 256 (mark_at marks)
+count-words marks four-words fits =
     let all = mark_at marks in
     let four : set_below 256 all ≡ set_below 192 all + set_below 64 (λ j. all (64 * 3 + j)) = set-below-cat 192 64 all in
     let three : set_below 192 all ≡ set_below 128 all + set_below 64 (λ j. all (64 * 2 + j)) = set-below-cat 128 64 all in
     let two : set_below 128 all ≡ set_below 64 all + set_below 64 (λ j. all (64 * 1 + j)) = set-below-cat 64 64 all in
     omega (
       arith,
+      sum_four ones marks.words four-words,
       first_block all,
       word_count marks 0 (fits 0),
       word_count marks 1 (fits 1),

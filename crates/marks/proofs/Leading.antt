@@ -2,7 +2,7 @@
 -- that `leading_length` gives are 0, and the one at it is 1.
 use mathlib.Core.Path.{◌≡◌, sym, ap, ◌∙◌, subst}
 use mathlib.Core.Logic.{◌⊎◌, inl, inr}
-use mathlib.Core.Bool.{true, false}
+use mathlib.Core.Bool.{Bool, true, false}
 use Prim.Native.Nat.{ℕ, suc, ◌+◌, ◌-◌, ◌*◌, ◌/◌, ◌%◌, ◌^◌, ◌≤◌, ◌<◌}
 use native.Mathlib.Nat.{lt_of_lt_of_le, mod-lt, pow-suc, div-eq_of_lt}
 use native.Mathlib.Omega.{arith}
@@ -10,8 +10,15 @@ use lib.Bits.{bit_and, and_mask}
 use lib.Count.{count_leading_zeros, leading_length}
 use lib.Pow.{pow_pos, pow_mono, high, field, mod-mod-pow, ones_split, ones_lt}
 use Rattle.model.proofs.Basics.{order}
-use Rattle.marks.specs.Marks.{bit_of, FirstSet}
+use Rattle.marks.specs.Marks.{bit_of}
 use Rattle.marks.proofs.Digits.{digit_at, bit-digit}
+
+-- r is the first of the marks from `from` to limit - 1 that is set, or the limit if there is none
+pub record FirstOrLimit (marked : ℕ → Bool) (from limit r : ℕ) : Type 0 where
+  pub not_before : from ≤ r
+  pub within : r ≤ limit
+  pub none_before : (i : ℕ) → from ≤ i → i < r → marked i ≡ false
+  pub set : r < limit → marked r ≡ true
 
 -- a remainder by 2 ^ whole keeps the digits below
 digit_low : (x whole e : ℕ) → e < whole → x % 2 ^ whole / 2 ^ e % 2 ≡ x / 2 ^ e % 2
@@ -54,7 +61,7 @@ module _ (k x from long : ℕ) (inside : from < k) (below : x % 2 ^ (k - from) <
       let l : long ≤ k - from = short in
       rw (← digit_low x (k - from) (k - suc i) (omega arith), one)
 
-pub first-digit : (k x from : ℕ) → from < k → FirstSet (digit_at k x) from k (count_leading_zeros k (x % 2 ^ (k - from)))
+pub first-digit : (k x from : ℕ) → from < k → FirstOrLimit (digit_at k x) from k (count_leading_zeros k (x % 2 ^ (k - from)))
 first-digit k x from inside =
     let zeros : ℕ = count_leading_zeros k (x % 2 ^ (k - from)) in
     let small : x % 2 ^ (k - from) < 2 ^ (k - from) = mod-lt x (pow_pos (k - from)) in
@@ -71,9 +78,9 @@ first-digit k x from inside =
     }
 
 -- the same for the bits of a word
-pub first_bit : (word from : ℕ) {r : ℕ} → from < 64 → r ≡ count_leading_zeros 64 (word % 2 ^ (64 - from)) → FirstSet (bit_of word) from 64 r
+pub first_bit : (word from : ℕ) {r : ℕ} → from < 64 → r ≡ count_leading_zeros 64 (word % 2 ^ (64 - from)) → FirstOrLimit (bit_of word) from 64 r
 first_bit word from {r} inside is =
-    let first = subst (λ (n : ℕ). FirstSet (digit_at 64 word) from 64 n) (sym is) (first-digit 64 word from inside) in
+    let first = subst (λ (n : ℕ). FirstOrLimit (digit_at 64 word) from 64 n) (sym is) (first-digit 64 word from inside) in
     record {
       not_before = first.not_before;
       within = first.within;

@@ -26,9 +26,9 @@ unfolding places_below set_below sum_over
 length-places zero marked = refl
 length-places (suc n) marked = rw (length-append (places_below n marked), length-places n marked, length-put (marked n))
 
-pub listed-none : (marked : ℕ → Bool) {n : ℕ} {list : Places} → n ≡ 0 → list.count ≡ 0 → list.place ≡ replicate 256 0 → Listed marked n list
+pub listed-none : (marked : ℕ → Bool) → Listed marked 0 (record { count = 0; place = replicate 256 0 })
 unfolding set_below sum_over places_below
-listed-none marked none empty blank = rw none (record { as_many = empty; places = blank })
+listed-none marked = record { as_many = refl; places = refl }
 
 -- marks that are not set
 pub listed-further :

@@ -1,6 +1,6 @@
 -- Document 01, "What the calls hand over": "256 marks in four 64-bit words, edge 1 the most significant bit of the first word, and the number of
 -- marks set". Marks count from 0 here, places from 1.
-use Rattle.std.specs.Prelude.{◌≡◌, Bool, true, false, List, [], ◌∷◌, ◌++◌, ℕ, zero, suc, ◌+◌, ◌-◌, ◌*◌, ◌/◌, ◌%◌, ◌^◌, ◌≤◌, ◌<◌, eqb, get_or, replicate}
+use Rattle.std.specs.Prelude.{◌≡◌, Bool, true, false, List, [], ◌∷◌, ◌++◌, ℕ, zero, suc, ◌+◌, ◌-◌, ◌*◌, ◌/◌, ◌%◌, ◌^◌, ◌≤◌, ◌<◌, eqb, get_or, replicate, Option, Some, None}
 use Rattle.model.specs.Lists.{put, counted, sum_over}
 use Rattle.marks.specs.declared.Marks.{Marks}
 use Rattle.marks.specs.declared.Places.{Places}
@@ -26,12 +26,10 @@ bit_of word j = eqb (word / 2 ^ (63 - j) % 2) 1
 unfoldable pub mark_at : Marks → ℕ → Bool
 mark_at marks i = bit_of (get_or marks.words (i / 64) 0) (i % 64)
 
--- r is the first of the marks from `from` to limit - 1 that is set, or the limit if there is none
-pub record FirstSet (marked : ℕ → Bool) (from limit r : ℕ) : Type 0 where
-  pub not_before : from ≤ r
-  pub within : r ≤ limit
-  pub none_before : (i : ℕ) → from ≤ i → i < r → marked i ≡ false
-  pub set : r < limit → marked r ≡ true
+-- the first of the marks from `from` to limit - 1 that is set, none if none of them is
+abbrev pub FirstSet : (ℕ → Bool) → ℕ → ℕ → Option ℕ → Type 0
+FirstSet marked from limit None = (i : ℕ) → from ≤ i → i < limit → marked i ≡ false
+FirstSet marked from limit (Some r) = (from ≤ r) × (r < limit) × (marked r ≡ true) × ((i : ℕ) → from ≤ i → i < r → marked i ≡ false)
 
 -- how many of the first n marks are set
 unfoldable pub set_below : ℕ → (ℕ → Bool) → ℕ

@@ -1,7 +1,7 @@
 // Marks of up to 256 edges in four words, edge 1 the most significant bit of the first word: how many are set, and where.
 #![tactic(auto)]
 
-ghost use Rattle.std.specs.Prelude.{◌≡◌, true, false, ℕ, ◌-◌, ◌≤◌, ◌<◌, replicate};
+ghost use Rattle.std.specs.Prelude.{◌≡◌, true, false, ℕ, ◌-◌, ◌≤◌, ◌<◌, MatchOption};
 ghost use Rattle.marks.specs.Marks.{bit_of, mark_at, set_below, places_of, FirstSet};
 
 // 256 marks.
@@ -23,36 +23,30 @@ pub struct Places {
 pub fn count_set(marks: Marks) -> u32
     ensures { result ≡ set_below 256 (mark_at marks) }
 {
-    u64::count_ones(marks.words[0])
-        + u64::count_ones(marks.words[1])
-        + u64::count_ones(marks.words[2])
-        + u64::count_ones(marks.words[3])
+    marks.words.iter().map(|word| word.count_ones()).sum()
 }
 
-// The first bit of a word that is set, from a bit on, 64 if there is none: the leading zeros of the word without the bits before.
-fn next_bit(word: u64, from: u32) -> u32
+// The first bit of a word that is set, from a bit on: the leading zeros of the word without the bits before.
+fn next_bit(word: u64, from: u32) -> Option<u32>
     requires { from < 64 }
     ensures { FirstSet (bit_of word) from 64 result }
 {
-    u64::leading_zeros(word & (0xffff_ffff_ffff_ffff >> from))
+    let bit = (word & (u64::MAX >> from)).leading_zeros();
+    if bit < 64 { Some(bit) } else { None }
 }
 
-// The first place past `after` whose mark is set, 0 if there is none.
-pub fn next_place(marks: Marks, after: u32) -> u32
-    ensures none { result ≡ 0 → (i : ℕ) → after ≤ i → i < 256 → mark_at marks i ≡ false }
-    ensures found { 0 < result → (after < result) × (result ≤ 256) × (mark_at marks (result - 1) ≡ true) × ((i : ℕ) → after ≤ i → i < result - 1 → mark_at marks i ≡ false) }
+// The first place past `after` whose mark is set.
+pub fn next_place(marks: Marks, after: u32) -> Option<u32>
+    ensures { MatchOption result ((i : ℕ) → after ≤ i → i < 256 → mark_at marks i ≡ false) (λ place. (after < place) × (place ≤ 256) × (mark_at marks (place - 1) ≡ true) × ((i : ℕ) → after ≤ i → i < place - 1 → mark_at marks i ≡ false)) }
 {
-    let mut word = after / 64;
     let mut from = after % 64;
-    while word < 4 {
-        let bit = next_bit(marks.words[word as usize], from);
-        if bit < 64 {
-            return word * 64 + bit + 1;
+    for word in after / 64..4 {
+        if let Some(bit) = next_bit(marks.words[word as usize], from) {
+            return Some(word * 64 + bit + 1);
         }
-        word += 1;
         from = 0;
     }
-    0
+    None
 }
 
 // Whether the mark at a place is set, places counted from 0.
@@ -64,31 +58,19 @@ pub fn is_marked(marks: Marks, place: u32) -> bool
     (word >> (63 - place % 64)) & 1 == 1
 }
 
-// No places.
-fn no_places() -> Places
-    ensures { (result.count ≡ 0) × (result.place ≡ replicate 256 0) }
-{
-    Places {
-        count: 0,
-        place: [0; 256],
-    }
-}
-
 // The places of all marks set, ascending, each found from the one before.
 pub fn places_of(marks: Marks) -> Places
     ensures { result ≡ places_of (mark_at marks) }
 {
-    let mut list = no_places();
-    let mut last: u32 = 0;
-    while last < 256 {
-        let next = next_place(marks, last);
-        if next == 0 {
-            return list;
-        }
-        let at = list.count as usize;
-        list.place[at] = next;
+    let mut list = Places {
+        count: 0,
+        place: [0; 256],
+    };
+    let mut last = 0;
+    while let Some(place) = next_place(marks, last) {
+        list.place[list.count as usize] = place;
         list.count += 1;
-        last = next;
+        last = place;
     }
     list
 }

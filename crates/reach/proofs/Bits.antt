@@ -1,6 +1,6 @@
 -- Bits of words: `|` joins them, a power of 2 has one, and a shift and a mask test one. From the digit laws of lib.Bits, one digit at a time.
 use mathlib.Core.Path.{◌≡◌, refl, sym, ap, ◌∙◌}
-use mathlib.Core.Bool.{Bool, true, false, not, ◌||◌, ◌&&◌}
+use mathlib.Core.Bool.{Bool, true, false, not, ◌||◌}
 use Prim.Native.Nat.{ℕ, zero, suc, ◌+◌, ◌/◌, ◌%◌, ◌^◌, ◌<◌, max}
 use native.Mathlib.Nat.{div-eq_of_lt, pow-suc}
 use native.Mathlib.Omega.{arith}
@@ -84,10 +84,3 @@ pub bit-tested : (word k : ℕ) → not (eqb (bit_and (word / 2 ^ k) 1) 0) ≡ b
 unfolding bit
 bit-tested word k =
     ap (λ (n : ℕ). not (eqb n 0)) (and_mask (word / 2 ^ k) 1) ∙ digit-test (word / 2 ^ k % 2) (digit-below (word / 2 ^ k))
-
--- a word whose bit k is not set, beside one that it does not take, and one that takes it
-pub bits_left : (word row k b : ℕ) → bit word k ≡ false → bit word b ≡ bit word b || (bit word k && bit row b)
-bits_left word row k b off = sym (ap (λ (x : Bool). bit word b || (x && bit row b)) off ∙ or-false (bit word b))
-
-pub bits-taken : (word row k b : ℕ) → bit word k ≡ true → bit (bit_or word row) b ≡ bit word b || (bit word k && bit row b)
-bits-taken word row k b on = bit-or word row b ∙ sym (ap (λ (x : Bool). bit word b || (x && bit row b)) on)

@@ -10,7 +10,8 @@ use native.Mathlib.Numerals.{add-one}
 use native.Mathlib.Nat.{not-suc-le-zero}
 use native.Mathlib.Omega.{arith}
 use lib.Dec.{T, T_not, eqb, eqb→eq}
-use lib.ListN.{length, get_or, set, replicate, length-set, length-replicate, get_or-replicate}
+use lib.ListN.{length, get_or, set, take, drop, replicate, length-append, length-drop, length-set, length-replicate, get_or-append, get_or-replicate}
+use Rattle.std.proofs.lemmas.List.{get_or-take}
 use lib.Seq.{get_or-set_same, get_or-set_other}
 use Rattle.model.specs.Lists.{put, keep, tabulate}
 use Rattle.model.specs.Tasks.{Edge}
@@ -114,41 +115,44 @@ taken-all source sink j n done whole few delay = record {
 
 -- ── One inner task after the other ──
 
--- the words of the first i tasks merged with word k, the others as before
-pub record PartMerged (i k : ℕ) (before after : List ℕ) : Type 0 where
-  pub room : length after ≡ 16
-  pub done : (a b : ℕ) → a < i → bit_in after a b ≡ bit_in before a b || (bit_in before a k && bit_in before k b)
+-- the first i words merged with a row, the others as before
+pub record PartMerged (i k row : ℕ) (before after : List ℕ) : Type 0 where
+  pub done : (a b : ℕ) → a < i → bit_in after a b ≡ bit_in before a b || (bit_in before a k && bit row b)
   pub rest : (a : ℕ) → i ≤ a → get_or after a 0 ≡ get_or before a 0
 
-pub merged-none : (k : ℕ) (words : List ℕ) → length words ≡ 16 → PartMerged 0 k words words
-merged-none k words room = record { room = room; done = λ a b l. absurd (not-suc-le-zero l); rest = λ a l. refl }
+pub merged-none : (k row : ℕ) (words : List ℕ) → PartMerged 0 k row words words
+merged-none k row words = record { done = λ a b l. absurd (not-suc-le-zero l); rest = λ a l. refl }
 
 pub merged-more :
-    {i k : ℕ} {before words words' : List ℕ} (word : ℕ) → PartMerged i k before words → words' ≡ set words i word → i < 16
-    → ((b : ℕ) → bit word b ≡ bit_in words i b || (bit_in words i k && bit_in before k b)) → PartMerged (i + 1) k before words'
-merged-more {i} {k} {before} {words} {words'} word part is inside stored = record {
-  room = ap length is ∙ (length-set words i word ∙ part.room);
+    {i k row : ℕ} {before words : List ℕ} (word : ℕ) → PartMerged i k row before words → i < length words
+    → ((b : ℕ) → bit word b ≡ bit_in words i b || (bit_in words i k && bit row b)) → PartMerged (i + 1) k row before (set words i word)
+merged-more {i} {k} {row} {before} {words} word part inside stored = record {
   done = λ a b l. let below : a < suc i = omega arith in done a b (below_suc below);
-  rest = λ a l.
-      ap (λ (xs : List ℕ). get_or xs a 0) is ∙ (get_or-set_other words i a word 0 (λ q. omega arith) ∙ part.rest a (omega arith));
+  rest = λ a l. get_or-set_other words i a word 0 (λ q. omega arith) ∙ part.rest a (omega arith);
 }
   where
-    done : (a b : ℕ) → (a < i) ⊎ (a ≡ i) → bit_in words' a b ≡ bit_in before a b || (bit_in before a k && bit_in before k b)
-    done a b (inl l) =
-        ap (λ (xs : List ℕ). bit_in xs a b) is ∙
-        (ap (λ (x : ℕ). bit x b) (get_or-set_other words i a word 0 (λ q. omega arith)) ∙ part.done a b l)
+    done : (a b : ℕ) → (a < i) ⊎ (a ≡ i) → bit_in (set words i word) a b ≡ bit_in before a b || (bit_in before a k && bit row b)
+    done a b (inl l) = ap (λ (x : ℕ). bit x b) (get_or-set_other words i a word 0 (λ q. omega arith)) ∙ part.done a b l
     done a b (inr q) =
-        let room : length words ≡ 16 = part.room in
         let old : get_or words i 0 ≡ get_or before i 0 = part.rest i (omega arith) in
-        ap (λ (xs : List ℕ). bit_in xs a b) is ∙
-        (ap (λ (v : ℕ). bit_in (set words i word) v b) q ∙
-        (ap (λ (x : ℕ). bit x b) (get_or-set_same words i word 0 (omega arith)) ∙
+        ap (λ (v : ℕ). bit_in (set words i word) v b) q ∙
+        (ap (λ (x : ℕ). bit x b) (get_or-set_same words i word 0 inside) ∙
         (stored b ∙
-        (ap (λ (x : ℕ). bit x b || (bit x k && bit_in before k b)) old ∙
-        ap (λ (v : ℕ). bit_in before v b || (bit_in before v k && bit_in before k b)) (sym q)))))
+        (ap (λ (x : ℕ). bit x b || (bit x k && bit row b)) old ∙
+        ap (λ (v : ℕ). bit_in before v b || (bit_in before v k && bit row b)) (sym q))))
 
-pub merged-all : {i n k : ℕ} {before after : List ℕ} → PartMerged i k before after → n ≤ i → Merged n k before after
-merged-all part whole = record { room = part.room; bits = λ a b l. part.done a b (omega arith) }
+-- the first n words merged, the rest left
+pub merged-all :
+    {n k : ℕ} {words items : List ℕ} → PartMerged n k (get_or words k 0) (take n words) items → length items ≡ n → n ≤ 16 → length words ≡ 16
+    → Merged n k words (items ++ drop n words)
+merged-all {n} {k} {words} {items} part whole few room = record {
+  room = omega (arith, length-append items (drop n words), length-drop n words);
+  bits = λ a b l.
+      let row = get_or words k 0 in
+      let inside : a < length items = omega arith in
+      ap (λ (x : ℕ). bit x b) (get_or-append items (drop n words) 0 a inside) ∙
+      (part.done a b l ∙ ap (λ (x : ℕ). bit x b || (bit x k && bit row b)) (get_or-take n words a 0 l));
+}
 
 -- a round is a step of the recursion
 pub through-more :

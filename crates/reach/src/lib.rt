@@ -1,7 +1,7 @@
 // Which processors a path leads to: a word for each, by Warshall's algorithm.
 #![tactic(auto)]
 
-ghost use Rattle.std.specs.Prelude.{◌≡◌, ◌||◌, ◌&&◌, List, ℕ, ◌≤◌, ◌<◌, max, eqb, length, get_or, replicate};
+ghost use Rattle.std.specs.Prelude.{◌≡◌, ◌||◌, ◌&&◌, List, ℕ, ◌≤◌, ◌<◌, eqb, length, get_or, replicate};
 ghost use Rattle.model.specs.Tasks.{Edge};
 ghost use Rattle.records.specs.Columns.{edges_of, at};
 ghost use Rattle.reach.specs.Reach.{bit, Reaches, ReachesThrough, Merged, processors_of, Circled, ReachesOn};
@@ -33,10 +33,7 @@ pub fn merged(word: u64, row: u64, k: usize) -> u64
     requires { k < 64 }
     ensures { (b : ℕ) → bit result b ≡ bit word b || (bit word k && bit row b) }
 {
-    if has_bit(word, k) {
-        return word | row;
-    }
-    word
+    if has_bit(word, k) { word | row } else { word }
 }
 
 // One round: a processor from which a path leads to processor k takes over where paths lead from k.
@@ -45,10 +42,8 @@ fn merge_through(k: usize, count: usize, words: &mut [u64])
     ensures { Merged count k words.old words.new }
 {
     let row = words[k];
-    let mut a = 0;
-    while a < count {
-        words[a] = merged(words[a], row, k);
-        a += 1;
+    for word in &mut words[..count] {
+        *word = merged(*word, row, k);
     }
 }
 
@@ -57,10 +52,8 @@ fn merge_all(count: usize, words: &mut [u64])
     requires { (count ≤ 16) × (length words.old ≡ 16) }
     ensures { (es : List Edge) → ReachesThrough 0 count es words.old → Reaches count es words.new }
 {
-    let mut k = 0;
-    while k < count {
+    for k in 0..count {
         merge_through(k, count, words);
-        k += 1;
     }
 }
 
@@ -80,36 +73,19 @@ fn take_between<'a>(source: &'a [u8], sink: &'a [u8], processor: &'a [u8], words
     requires words_value { words.old ≡ replicate 16 0 }
     ensures { (delay : List ℕ) → ReachesThrough 0 16 (edges_of (processors_of processor.now source.now) (processors_of processor.now sink.now) delay) words.new }
 {
-    let mut j = 0;
-    while j < source.len() {
-        let leaves = processor_of(processor, source[j]);
-        let enters = processor_of(processor, sink[j]);
+    for (from, to) in source.iter().zip(sink) {
+        let leaves = processor_of(processor, *from);
+        let enters = processor_of(processor, *to);
         words[leaves] = with_bit(words[leaves], enters);
-        j += 1;
     }
 }
 
-// The greater of two processors.
-fn greater(a: u8, b: u8) -> u8
-    ensures { result ≡ max a b }
-{
-    if a < b {
-        return b;
-    }
-    a
-}
-
-// A number that every processor of the tasks is below: one more than the highest of them.
+// A number that every processor of the tasks is below: one more than the highest of them, 1 if there are no tasks.
 fn processors_used(processor: &[u8]) -> usize
     requires { (v : ℕ) → v < length processor.now → at processor.now v < 16 }
     ensures { (result ≤ 16) × ((v : ℕ) → v < length processor.now → at processor.now v < result) }
 {
-    let mut highest: u8 = 0;
-    let mut v = 0;
-    while v < processor.len() {
-        highest = greater(highest, processor[v]);
-        v += 1;
-    }
+    let highest = processor.iter().copied().max().unwrap_or(0);
     highest as usize + 1
 }
 
@@ -121,7 +97,7 @@ pub fn paths_between_processors<'a>(source: &'a [u8], sink: &'a [u8], processor:
     requires by_index_2 { (v : ℕ) → v < length processor.now → at processor.now v < 16 }
     ensures { (delay : List ℕ) → Circled (length processor.now) (edges_of source.now sink.now delay) processor.now → ReachesOn (length processor.now) (edges_of source.now sink.now delay) processor.now result.words }
 {
-    let mut words: [u64; 16] = [0; 16];
+    let mut words = [0; 16];
     take_between(source, sink, processor, &mut words);
     let used = processors_used(processor);
     merge_all(used, &mut words);

@@ -22,6 +22,13 @@ put-part a e f xs {ys} {n} below as_many is =
     ap (λ (z : List ℕ). take a xs ++ (z ++ post_of a (e - a) xs)) (is ∙ ap (λ (m : ℕ). tabulate m f) as_many) ∙
     ap (λ (z : List ℕ). take a xs ++ (tabulate (e - a) f ++ z)) (Post-is a e xs below)
 
+-- the same for a part from the start on
+pub put-front :
+    (e : ℕ) (f : ℕ → ℕ) (xs : List ℕ) {ys : List ℕ} {n : ℕ} → n ≡ e → ys ≡ tabulate n f → ys ++ drop e xs ≡ with_part 0 e f xs
+unfolding with_part
+put-front e f xs {ys} as_many is =
+    ap (λ (z : List ℕ). z ++ drop e xs) (is ∙ ap (λ (m : ℕ). tabulate m f) (as_many ∙ sym (sub-zero e)))
+
 -- ── What stands where ──
 
 module _ (a e : ℕ) (f : ℕ → ℕ) (xs : List ℕ) (below : a ≤ e) (within : e ≤ length xs) where

@@ -18,12 +18,10 @@ pub fn read_tasks<'a>(bytes: &[u8], processor: &'a mut [u8], time: &'a mut [u16]
     ensures processor_after { processor.new ≡ tabulate (length processor.old) (λ v. (task_at bytes.now (record_start graph_header_bits v)).processor) }
     ensures time_after { time.new ≡ tabulate (length processor.old) (λ v. (task_at bytes.now (record_start graph_header_bits v)).time) }
 {
-    let mut v = 0;
-    while v < processor.len() {
+    for v in 0..processor.len() {
         let task = layout::task_at(bytes, GRAPH_HEADER_BITS + RECORD_BITS * v);
         processor[v] = task.processor;
         time[v] = task.time;
-        v += 1;
     }
 }
 
@@ -43,17 +41,15 @@ pub fn read_edges<'a>(
     ensures sink_after { sink.new ≡ tabulate (length source.old) (λ j. (edge_at bytes.now (record_start position j)).sink) }
     ensures delay_after { delay.new ≡ tabulate (length source.old) (λ j. (edge_at bytes.now (record_start position j)).delay) }
 {
-    let mut j = 0;
-    while j < source.len() {
+    for j in 0..source.len() {
         let edge = layout::edge_at(bytes, position + RECORD_BITS * j);
         source[j] = edge.source;
         sink[j] = edge.sink;
         delay[j] = edge.delay;
-        j += 1;
     }
 }
 
-// No task.
+// No task, in the arrays of tasks: above every task, and the only number there whose bit 6 is set.
 const NO_TASK: u8 = 64;
 
 // For each task the next one on its processor, for each processor its first task. One pass from the last task to the first: the first task on a
@@ -64,9 +60,7 @@ fn find_next<'a>(processor: &[u8], next: &'a mut [u8], first: &'a mut [u8])
     ensures next_tasks { NextTasks processor.now 0 next.new }
     ensures first_tasks { FirstTasks processor.now 0 first.new }
 {
-    let mut v = processor.len();
-    while v > 0 {
-        v -= 1;
+    for v in (0..processor.len()).rev() {
         let own = processor[v] as usize;
         next[v] = first[own];
         first[own] = v as u8;
@@ -91,18 +85,14 @@ pub fn processor_edges<'a>(
 {
     let mut first: [u8; 256] = [NO_TASK; 256];
     find_next(processor, sink, &mut first);
-    let mut v = 0;
-    while v < processor.len() {
+    for v in 0..processor.len() {
         source[v] = v as u8;
         delay[v] = sink[v] >> 6;
-        v += 1;
     }
-    let mut w = 0;
-    while w < processor.len() {
+    for w in 0..processor.len() {
         if sink[w] >= NO_TASK {
             sink[w] = first[processor[w] as usize];
         }
-        w += 1;
     }
 }
 
@@ -113,7 +103,7 @@ pub fn tasks_into<'a>(bytes: &[u8], tasks: usize, processor: &'a mut [u8], time:
     ensures processor_after { processor.new ≡ with_part 0 tasks (λ v. (task_at bytes.now (record_start graph_header_bits v)).processor) processor.old }
     ensures time_after { time.new ≡ with_part 0 tasks (λ v. (task_at bytes.now (record_start graph_header_bits v)).time) time.old }
 {
-    read_tasks(bytes, &mut processor[0..tasks], &mut time[0..tasks]);
+    read_tasks(bytes, &mut processor[..tasks], &mut time[..tasks]);
 }
 
 // The edges of a file from a bit position on, as the part from `from` to `to` of longer lists.
@@ -158,9 +148,9 @@ pub fn processor_edges_into<'a>(
     ensures delay_after { (ts : List Task) → ProcessorsOf ts (take tasks processor.now) → delay.new ≡ with_part 0 tasks (λ v. (processor_edge ts v).delay) delay.old }
 {
     processor_edges(
-        &processor[0..tasks],
-        &mut source[0..tasks],
-        &mut sink[0..tasks],
-        &mut delay[0..tasks],
+        &processor[..tasks],
+        &mut source[..tasks],
+        &mut sink[..tasks],
+        &mut delay[..tasks],
     );
 }

@@ -7,6 +7,7 @@ use mathlib.Core.List.{List}
 use Prim.Native.Nat.{ℕ, suc, ◌+◌, ◌*◌, ◌≤◌, ◌<◌, min}
 use native.Mathlib.Nat.{mul-le-mul_right, suc-mul}
 use native.Mathlib.Omega.{arith}
+use lib.Dec.{leb, leb→le, le→leb}
 use lib.ListN.{length, get_or}
 use Rattle.model.specs.Lists.{without}
 use Rattle.model.specs.Tasks.{Edge, ◌∈◌, Ends, no_edge}
@@ -15,7 +16,8 @@ use Rattle.model.specs.Compute.{order_holds}
 use Rattle.model.specs.Theorems.{Decides}
 use Rattle.model.proofs.Theorems.{least-delay-is}
 use Rattle.model.proofs.Walks.{path-ends}
-use Rattle.model.proofs.Tests.{decides-yes, decides-no, decides_and, ltb-decides, order-holds}
+use Rattle.model.proofs.Basics.{order}
+use Rattle.model.proofs.Tests.{decides-iff, decides-yes, decides-no, decides_and, ltb-decides, order-holds}
 use Rattle.records.specs.Columns.{held_edge, edges_of}
 use Rattle.records.proofs.Edges.{edges-length, edge_in_lem, edge-out, edge-at}
 use Rattle.records.proofs.Rows.{product_small}
@@ -145,19 +147,29 @@ module _ {n : ℕ} {source sink delay table last : List ℕ} (tabled : Tabled n 
       pub marked-by-path : get_or table (s * n + t) 0 < get_or delay own 0 → redundant_in n (edges_of source sink delay) i ≡ true
       marked-by-path less = marked (shorter less)
 
-      module _ (r : ℕ) (sum : LeastSum table (s * n) last (t * 64) n r) where
-        pub marked-by-sum : r ≤ get_or delay own 0 → redundant_in n (edges_of source sink delay) i ≡ true
-        marked-by-sum few = marked (within r sum few)
+      -- else the least sum tells
+      pub marked-by-sum :
+          (r : ℕ) → LeastSum table (s * n) last (t * 64) n r → get_or delay own 0 ≤ get_or table (s * n + t) 0
+          → leb r (get_or delay own 0) ≡ redundant_in n (edges_of source sink delay) i
+      marked-by-sum r sum longer = go (order r d)
+        where
+          d : ℕ
+          d = get_or delay own 0
 
-        pub not_marked : get_or delay own 0 ≤ get_or table (s * n + t) 0 → get_or delay own 0 < r → redundant_in n (edges_of source sink delay) i ≡ false
-        not_marked longer more =
-            decides-no (redundant-decides tabled.fit.ends i)
-            (λ redundant.
-            none (shown r sum (subst (λ (e : Edge). Between (edges_of source sink delay) e) (sym own_is) (between.0 redundant.1))))
-          where
-            none : (get_or table (s * n + t) 0 < get_or delay own 0) ⊎ (r ≤ get_or delay own 0) → ⊥
-            none (inl less) = omega arith
-            none (inr few) = omega arith
+          test : Decides (leb r d) (r ≤ d)
+          test = decides-iff (leb→le r d) (le→leb r d)
+
+          none : d < r → (get_or table (s * n + t) 0 < d) ⊎ (r ≤ d) → ⊥
+          none more (inl less) = omega arith
+          none more (inr few) = omega arith
+
+          go : (r ≤ d) ⊎ (d < r) → leb r d ≡ redundant_in n (edges_of source sink delay) i
+          go (inl few) = decides-yes test few ∙ sym (marked (within r sum few))
+          go (inr more) =
+              decides-no test (λ few. none more (inr few)) ∙
+              sym
+              (decides-no (redundant-decides tabled.fit.ends i)
+              (λ redundant. none more (shown r sum (subst (λ (e : Edge). Between (edges_of source sink delay) e) (sym own_is) (between.0 redundant.1)))))
 
 -- a place past the lists' end is no edge's
 pub past_end : (n : ℕ) (source sink delay : List ℕ) (i : ℕ) → length source ≤ n + i → redundant_in n (edges_of source sink delay) i ≡ false

@@ -4,13 +4,12 @@
 #![tactic(auto)]
 
 ghost use Rattle.std.specs.Prelude.{◌≡◌, ℕ, ◌+◌, ◌≤◌, ◌<◌, length, get_or};
-ghost use Rattle.model.specs.Lists.{counted};
 ghost use Rattle.records.specs.Columns.{edges_of};
 ghost use Rattle.delays.specs.Delays.{delay_table, Fit};
-ghost use Rattle.marks.specs.Marks.{number, marks_of};
+ghost use Rattle.marks.specs.Marks.{marks_of};
 ghost use Rattle.redundancy.specs.Redundancy.{redundant_in, Apart, Tabled, LeastSum};
 
-use delays::{FAR, WIDTH, lesser, nearer, take_steps};
+use delays::{FAR, WIDTH, nearer, take_steps};
 use marks::Marks;
 
 // The least of the sums of a row of least delays and a row of last steps, FAR where none is less.
@@ -19,17 +18,15 @@ fn least_sum<'a>(table: &'a [u16], from: usize, last: &'a [u16], to: usize, task
     ensures { LeastSum table.now from last.now to tasks result }
 {
     let mut least = FAR;
-    let mut u = 0;
-    while u < tasks {
-        let sum = lesser(table[from + u], FAR) + last[to + u];
+    for u in 0..tasks {
+        let sum = table[from + u].min(FAR) + last[to + u];
         least = nearer(least, sum);
-        u += 1;
     }
     least
 }
 
-// 1 if edge `own` is redundant, otherwise 0.
-fn mark<'a>(
+// Whether edge `own` is redundant.
+fn is_redundant<'a>(
     source: &'a [u8],
     sink: &'a [u8],
     delay: &'a [u8],
@@ -37,53 +34,15 @@ fn mark<'a>(
     tasks: usize,
     last: &'a [u16],
     own: usize,
-) -> u64
+) -> bool
     requires own_in_bounds { own < length source.now }
     requires tabled { Tabled tasks source.now sink.now delay.now table.now last.now }
-    ensures upper_bound { result ≤ 1 }
-    ensures by_index { (i : ℕ) → own ≡ tasks + i → result ≡ counted (redundant_in tasks (edges_of source.now sink.now delay.now) i) 1 }
+    ensures { (i : ℕ) → own ≡ tasks + i → result ≡ redundant_in tasks (edges_of source.now sink.now delay.now) i }
 {
     let from = source[own] as usize * tasks;
     let to = sink[own] as usize;
     let most = delay[own] as u16;
-    if table[from + to] < most {
-        return 1;
-    }
-    if least_sum(table, from, last, to * WIDTH, tasks) <= most {
-        return 1;
-    }
-    0
-}
-
-// 64 marks in a word: that of the file's edge number `first`, counted from 0, is the most significant bit, those after it follow.
-// Past the last edge there are zeros.
-fn mark_word<'a>(
-    source: &'a [u8],
-    sink: &'a [u8],
-    delay: &'a [u8],
-    table: &'a [u16],
-    tasks: usize,
-    last: &'a [u16],
-    first: usize,
-) -> u64
-    requires first_bound { first ≤ 192 }
-    requires tabled { Tabled tasks source.now sink.now delay.now table.now last.now }
-    ensures { result ≡ number 64 (λ j. redundant_in tasks (edges_of source.now sink.now delay.now) (first + j)) }
-{
-    let start = tasks + first;
-    if start >= source.len() {
-        return 0;
-    }
-    let mut word = 0;
-    let mut j = 0;
-    while j < 64 {
-        if start + j >= source.len() {
-            return word << (64 - j);
-        }
-        word = word * 2 + mark(source, sink, delay, table, tasks, last, start + j);
-        j += 1;
-    }
-    word
+    table[from + to] < most || least_sum(table, from, last, to * WIDTH, tasks) <= most
 }
 
 // The marks of the redundant edges among those behind the first `tasks`, which are the processors'. There must be no cycle of delay 0.
@@ -101,13 +60,15 @@ pub fn redundant_marks<'a>(
     requires table_value { table.now ≡ delay_table tasks (edges_of source.now sink.now delay.now) }
     ensures { result ≡ marks_of (redundant_in tasks (edges_of source.now sink.now delay.now)) }
 {
-    let mut last: [u16; 4096] = [FAR; 4096];
+    let mut last = [FAR; 4096];
     take_steps(sink, source, delay, &mut last);
-    let first = mark_word(source, sink, delay, table, tasks, &last, 0);
-    let second = mark_word(source, sink, delay, table, tasks, &last, 64);
-    let third = mark_word(source, sink, delay, table, tasks, &last, 128);
-    let fourth = mark_word(source, sink, delay, table, tasks, &last, 192);
-    Marks {
-        words: [first, second, third, fourth],
+    // There are 256 marks, the first of each word its most significant bit.
+    let edges = source.len().saturating_sub(tasks).min(256);
+    let mut words = [0; 4];
+    for i in 0..edges {
+        if is_redundant(source, sink, delay, table, tasks, &last, tasks + i) {
+            words[i / 64] |= 1 << (63 - i % 64);
+        }
     }
+    Marks { words }
 }

@@ -3,7 +3,7 @@ use mathlib.Core.Path.{◌≡◌, sym, ap, ◌∙◌, subst}
 use mathlib.Core.Logic.{◌≢◌}
 use mathlib.Core.List.{List, ◌++◌, append_assoc}
 use Prim.Native.Nat.{ℕ, ◌+◌, ◌-◌, ◌≤◌}
-use native.Mathlib.Nat.{zero-add, sub-zero}
+use native.Mathlib.Nat.{zero-add}
 use native.Mathlib.Omega.{arith}
 use lib.ListN.{length, take, drop, replicate, length-append, length-replicate, replicate-append-replicate}
 use lib.Seq.{take_at, drop_at, length-take-le}
@@ -12,6 +12,7 @@ use Rattle.text.specs.Text.{Appended}
 use Rattle.marks.specs.declared.Marks.{Marks}
 use Rattle.marks.specs.declared.Places.{Places}
 use Rattle.marks.specs.Marks.{mark_at, set_below, places_below, places_of}
+use Rattle.marks.proofs.Laws.{set-below-le}
 use Rattle.marks.proofs.Listed.{places_counted}
 use Rattle.figures.specs.declared.GraphFigures.{GraphFigures}
 use Rattle.figures.specs.Figures.{figures_of}
@@ -32,13 +33,12 @@ drop-zeros n m h =
     drop_at (replicate n 0) (replicate (m - n) 0) n (length-replicate n 0))
 
 pub text-whole :
-    {bytes zeros after : List ℕ} {next : ℕ} → zeros ≡ replicate 1024 0 → Appended 0 bytes zeros after next →
-    record { length = next; bytes = after } ≡ text_of bytes
+    {bytes after : List ℕ} {next : ℕ} → Appended 0 bytes (replicate 1024 0) after next → record { length = next; bytes = after } ≡ text_of bytes
 unfolding text_of
-text-whole {bytes} {zeros} {after} {next} blank put =
+text-whole {bytes} {after} {next} put =
     let long : next ≡ length bytes = put.next_is ∙ zero-add (length bytes) in
-    let rest : drop next zeros ≡ replicate (1024 - next) 0
-    = ap (drop next) blank ∙ drop-zeros next 1024 (omega (arith, put.room, ap length blank, length-replicate {A = ℕ} 1024 0)) in
+    let rest : drop next (replicate 1024 0) ≡ replicate (1024 - next) 0
+    = drop-zeros next 1024 (omega (arith, put.room, length-replicate {A = ℕ} 1024 0)) in
     let is : after ≡ bytes ++ replicate (1024 - length bytes) 0
     = put.after_is ∙
     (ap (λ (z : List ℕ). bytes ++ z) rest ∙ ap (λ (n : ℕ). bytes ++ replicate (1024 - n) 0) long) in
@@ -96,15 +96,13 @@ module _ (m : Marks) (r : Places) (is : r ≡ places_of (mark_at m)) where
   unfolding places_of
   list-is = ap (λ (x : Places). x.place) is
 
-  pub places-within : r.count ≤ length r.place
-  places-within =
-      let long : length r.place ≡ length (places_below 256 (mark_at m)) + length {A = ℕ} (replicate (256 - set_below 256 (mark_at m)) 0)
-      = ap length list-is ∙ length-append (places_below 256 (mark_at m)) (replicate (256 - set_below 256 (mark_at m)) 0) in
-      omega (arith, long, count-is)
+  pub places_within : r.count ≤ 256
+  unfolding places_of
+  places_within =
+      let same = ap (λ (x : Places). x.count) is in
+      omega (arith, same, set-below-le 256 (mark_at m))
 
   -- the front of the list, as it is lent
-  pub places-front : take (r.count - 0) r.place ≡ places_below 256 (mark_at m)
+  pub places-front : take r.count r.place ≡ places_below 256 (mark_at m)
   places-front =
-      ap (λ (n : ℕ). take n r.place) (sub-zero r.count) ∙
-      (ap (take r.count) list-is ∙
-      take_at (places_below 256 (mark_at m)) (replicate (256 - set_below 256 (mark_at m)) 0) r.count (sym count-is))
+      ap (take r.count) list-is ∙ take_at (places_below 256 (mark_at m)) (replicate (256 - set_below 256 (mark_at m)) 0) r.count (sym count-is)

@@ -1,5 +1,5 @@
 // Each line put into a lent list of bytes, and all of them into a text.
-ghost use Rattle.std.specs.Prelude.{◌≡◌, ◌+◌, ◌≤◌, length, replicate};
+ghost use Rattle.std.specs.Prelude.{◌≡◌, ◌+◌, ◌≤◌, length};
 ghost use Rattle.text.specs.Text.{Appended};
 ghost use Rattle.report.specs.Report.{graph_line, redundant_line, accepted_line, refused_line, verdict_line, printed, text_of};
 
@@ -26,17 +26,16 @@ fn put_graph_line(out: &mut [u8], at: usize, figures: GraphFigures) -> usize
 }
 
 // "count of redundant edges and their places ascending"
+#[tactic(auto, using(crate::proofs::Whole::places_within))]
 fn put_redundant_line(out: &mut [u8], at: usize, set: RedundantSet) -> usize
     requires { at + length (redundant_line set) ≤ length out.old }
     ensures { Appended at (redundant_line set) out.old out.new result }
 {
-    let marks = set.marks;
-    let listed = places_of(marks);
-    let end = listed.count as usize;
-    let list = listed.place;
+    let listed = places_of(set.marks);
+    let list = &listed.place[..listed.count as usize];
     let word = put_word(out, at, b"redundant");
     let count = put_field(out, word, set.count);
-    let places = put_fields(out, count, &list[0..end]);
+    let places = put_fields(out, count, list);
     put(out, places, NEWLINE)
 }
 
@@ -76,23 +75,12 @@ fn put_verdict_line(out: &mut [u8], at: usize, verdict: ProposalVerdict) -> usiz
     put_accepted_line(out, at, verdict)
 }
 
-// No text.
-fn blank() -> Text
-    ensures { result.bytes ≡ replicate 1024 0 }
-{
-    Text {
-        length: 0,
-        bytes: [0; 1024],
-    }
-}
-
 // The text of what the calls answered.
 pub fn text_of(figures: GraphFigures, set: RedundantSet, verdict: ProposalVerdict) -> Text
     requires { length (printed figures set verdict) ≤ 1024 }
     ensures { result ≡ text_of (printed figures set verdict) }
 {
-    let blank = blank();
-    let mut bytes = blank.bytes;
+    let mut bytes = [0; 1024];
     let outcome = figures.outcome;
     if outcome.number != 0 {
         let length = put_refused_line(&mut bytes, 0, outcome);

@@ -3,17 +3,21 @@ use mathlib.Core.Path.{◌≡◌, refl, sym, ap, ◌∙◌, subst}
 use mathlib.Core.Logic.{◌⊎◌, inl, inr}
 use mathlib.Core.Bool.{Bool, true, false}
 use mathlib.Core.List.{List, [], ◌∷◌, ◌++◌}
-use Prim.Native.Nat.{ℕ, suc, ◌+◌, ◌≤◌, ◌<◌}
+use Prim.Native.Nat.{ℕ, suc, ◌+◌, ◌-◌, ◌≤◌, ◌<◌}
 use native.Mathlib.Nat.{not-suc-le-zero, le_refl, add-zero}
 use native.Mathlib.Numerals.{add-one}
 use native.Mathlib.Omega.{arith}
 use lib.ListN.{length, get_or, take, set, length-set, length-append, get_or-append}
+use borrow.Rule.Slice.PartMut.{mid_of, put_mid, mid_len, same_len_mid}
+use Rattle.std.proofs.lemmas.List.{get_or-append_right}
+use Rattle.std.proofs.lemmas.Slice.{take-put_mid}
 use lib.Seq.{take-suc-set, take-set-le, get_or_at, length-take-le}
-use Rattle.model.specs.Lists.{tabulate, keep, counted}
+use Rattle.std.specs.Int.{from_bool}
+use Rattle.model.specs.Lists.{tabulate, keep}
 use Rattle.model.specs.Tasks.{Edge, no_edge}
-use Rattle.model.proofs.Basics.{below_suc}
+use Rattle.model.proofs.Basics.{order, below_suc}
 use Rattle.records.specs.Columns.{Column, held_edge, edges_of}
-use Rattle.records.proofs.Edges.{edge-at, edges-of-columns}
+use Rattle.records.proofs.Edges.{edges-length, edge-at, edges-of-columns}
 use Rattle.results.specs.declared.ResultEdges.{ResultEdges}
 use Rattle.results.specs.Results.{HeldResult, result_in}
 use Rattle.results.specs.Fronts.{Front, HeldFront}
@@ -68,6 +72,58 @@ held_more e held below = record {
   delays = front-more e held.delays below;
 }
 
+-- a column copied behind a front
+column-append :
+    {A : Type 0} {missing : A} {part : A → ℕ} {rows rows' : List A} {column column' : List ℕ} → Column missing part rows column
+    → Column missing part rows' column' → Column missing part (rows ++ rows') (column ++ column')
+column-append {A} {missing} {part} {rows} {rows'} {column} {column'} held held' = record {
+  as_many =
+      length-append column column' ∙ ((λ i. held.as_many i + held'.as_many i) ∙ sym (length-append rows rows'));
+  same = λ i l. go i l (order (length rows) i);
+}
+  where
+    go : (i : ℕ) → i < length (rows ++ rows') → (length rows ≤ i) ⊎ (i < length rows)
+        → get_or (column ++ column') i 0 ≡ part (get_or (rows ++ rows') i missing)
+    go i l (inr front) =
+        get_or-append column column' 0 i (omega (arith, held.as_many)) ∙
+        (held.same i front ∙ ap part (sym (get_or-append rows rows' missing i front)))
+    go i l (inl behind) =
+        get_or-append_right column column' (length rows) i 0 held.as_many behind ∙
+        (held'.same (i - length rows) (omega (arith, length-append rows rows')) ∙
+        ap part (sym (get_or-append_right rows rows' (length rows) i missing refl behind)))
+
+front-append :
+    {part : Edge → ℕ} {es es' : List Edge} {size count end : ℕ} {list column : List ℕ} → Front part es size count list → end ≡ count + length column → end ≤ size
+    → Column no_edge part es' column → Front part (es ++ es') size end (put_mid count (end - count) list column)
+front-append {part} {es} {es'} {size} {count} {end} {list} {column} front ends fits more =
+    let few : end ≤ length list = omega (arith, front.room) in
+    let as_long : length column ≡ length (mid_of count (end - count) list) =
+    (let many : length column ≡ end - count = omega arith in many) ∙ sym (mid_len count end list few) in
+    let within : count ≤ length list = omega arith in
+    record {
+      as_many = ends ∙ ((λ i. front.as_many i + more.as_many i) ∙ sym (length-append es es'));
+      room = same_len_mid count (end - count) list column as_long ∙ front.room;
+      column = subst (λ (xs : List ℕ). Column no_edge part (es ++ es') xs) (sym (take-put_mid count (end - count) list column end ends within)) (column-append front.column more);
+    }
+
+-- three lists copied behind the fronts of three others
+pub held-append :
+    {size count end : ℕ} {source sink delay : List ℕ} {es : List Edge} (from to late : List ℕ) → HeldFront size count source sink delay es
+    → end ≡ count + length from → end ≤ size → length to ≡ length from → length late ≡ length from
+    → HeldFront size end (put_mid count (end - count) source from) (put_mid count (end - count) sink to) (put_mid count (end - count) delay late) (es ++ edges_of from to late)
+unfolding held_edge
+held-append from to late held ends fits sinks delays = record {
+  sources = front-append held.sources ends fits (record { as_many = sym size; same = λ i l. ap (λ (e : Edge). e.source) (at i l) });
+  sinks = front-append held.sinks (omega (arith, sinks)) fits (record { as_many = sinks ∙ sym size; same = λ i l. ap (λ (e : Edge). e.sink) (at i l) });
+  delays = front-append held.delays (omega (arith, delays)) fits (record { as_many = delays ∙ sym size; same = λ i l. ap (λ (e : Edge). e.delay) (at i l) });
+}
+  where
+    size : length (edges_of from to late) ≡ length from
+    size = edges-length from to late
+
+    at : (i : ℕ) → i < length (edges_of from to late) → held_edge from to late i ≡ get_or (edges_of from to late) i no_edge
+    at i l = sym (edge-at from to late i (omega (arith, size)))
+
 -- a number stored behind the front leaves it as it is
 front-under :
     {part : Edge → ℕ} {es : List Edge} {size count : ℕ} {list : List ℕ} (x : ℕ) → Front part es size count list → Front part es size count (set list count x)
@@ -103,17 +159,15 @@ held_same held p q r s t = record {
   delays = front_same held.delays p q t;
 }
 
-pub counted-one : (b : Bool) → counted b 1 ≤ 1
-unfolding counted
+pub counted-one : (b : Bool) → from_bool b ≤ 1
 counted-one true = omega arith
 counted-one false = omega arith
 
 -- an edge stored behind those kept, which counts if it passes the test
 pub kept_more :
-    (t : Edge → Bool) (xs : List Edge) {size kept one : ℕ} {source sink delay : List ℕ} (e : Edge) (b : Bool) → t e ≡ b → one ≡ counted b 1
+    (t : Edge → Bool) (xs : List Edge) {size kept one : ℕ} {source sink delay : List ℕ} (e : Edge) (b : Bool) → t e ≡ b → one ≡ from_bool b
     → HeldFront size kept source sink delay (keep t xs) → kept < size
     → HeldFront size (kept + one) (set source kept e.source) (set sink kept e.sink) (set delay kept e.delay) (keep t (xs ++ (e ∷ [])))
-unfolding counted
 kept_more t xs {kept = kept} e true is one-is held below =
     held_same (held_more e held below) (keep-more t xs e is) (ap (λ (k : ℕ). kept + k) one-is) refl refl refl
 kept_more t xs {kept = kept} e false is one-is held below =

@@ -3,7 +3,6 @@
 #![tactic(auto)]
 
 ghost use Rattle.std.specs.Prelude.{◌≡◌, List, ◌++◌, ℕ, ◌+◌, ◌≤◌, ◌<◌, length, set};
-ghost use Rattle.model.specs.Lists.{counted};
 ghost use Rattle.model.specs.Tasks.{Edge};
 ghost use Rattle.records.specs.Columns.{edges_of, at};
 ghost use Rattle.delays.specs.Delays.{Fit};
@@ -42,16 +41,6 @@ pub fn store<'a>(
     to_delay[at] = delay;
 }
 
-// 1 if so, 0 if not.
-fn one_if(so: bool) -> usize
-    ensures { result ≡ counted so 1 }
-{
-    if so {
-        return 1;
-    }
-    0
-}
-
 // Stores the edges that lie on a cycle, where a path leads from the sink's processor back to the source's, at the front of three lists. Gives how many.
 fn keep_cyclic<'a, 'b>(
     source: &'a [u8],
@@ -72,15 +61,14 @@ fn keep_cyclic<'a, 'b>(
     ensures held_front { HeldFront 576 result to_source.new to_sink.new to_delay.new (cyclic (length processor.now) (edges_of source.now sink.now delay.now)) }
 {
     let mut kept = 0;
-    let mut j = 0;
-    while j < source.len() {
+    for j in 0..source.len() {
         let s = source[j];
         let t = sink[j];
         let from = processor_of(processor, t);
         let to = processor_of(processor, s);
+        // An edge that does not count is written over by the next.
         store(s, t, delay[j], kept, to_source, to_sink, to_delay);
-        kept += one_if(leads_to(words, from, to));
-        j += 1;
+        kept += usize::from(leads_to(words, from, to));
     }
     kept
 }
@@ -100,19 +88,10 @@ pub fn append<'a, 'b>(
     requires to_source_len { (length to_source.old ≡ 576) × (length to_sink.old ≡ 576) × (length to_delay.old ≡ 576) }
     ensures { (es : List Edge) → HeldFront 576 kept to_source.old to_sink.old to_delay.old es → HeldFront 576 (kept + length source.now) to_source.new to_sink.new to_delay.new (es ++ edges_of source.now sink.now delay.now) }
 {
-    let mut j = 0;
-    while j < source.len() {
-        store(
-            source[j],
-            sink[j],
-            delay[j],
-            kept + j,
-            to_source,
-            to_sink,
-            to_delay,
-        );
-        j += 1;
-    }
+    let end = kept + source.len();
+    to_source[kept..end].copy_from_slice(source);
+    to_sink[kept..end].copy_from_slice(sink);
+    to_delay[kept..end].copy_from_slice(delay);
 }
 
 // The edges of the result of proposed edges, from the edges that order a graph. Paths lead from each task to each one of its processor, as the processor
@@ -136,9 +115,9 @@ pub fn result_edges<'a>(
 {
     let reach = paths_between_processors(source, sink, processor);
     let words = reach.words;
-    let mut to_source: [u8; 576] = [0; 576];
-    let mut to_sink: [u8; 576] = [0; 576];
-    let mut to_delay: [u8; 576] = [0; 576];
+    let mut to_source = [0; 576];
+    let mut to_sink = [0; 576];
+    let mut to_delay = [0; 576];
     let kept = keep_cyclic(
         source,
         sink,

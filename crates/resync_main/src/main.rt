@@ -3,12 +3,14 @@
 
 ghost use Rattle.std.specs.Prelude.{◌≡◌, ◌≤◌, length, take};
 
+use report::Text;
 use std::fs::File;
 use std::io;
 use std::io::{Read, Write};
 
 // Reads a file's front, as much as the list holds, and answers how many bytes it has: "A file that cannot be opened counts as empty."
-// A read that fails ends the file there.
+// A read that fails ends the file there. A loop over `read`: `read_to_end` needs a heap, and after the `Err` of a file that is shorter than the list
+// `read_exact` does not say how many bytes it read.
 fn read_front(rt: &HostRuntime, path: &str, front: &mut [u8]) -> usize
     ensures within { result ≤ length front.new }
     ensures counted { result ≡ length (take result front.new) }
@@ -32,8 +34,9 @@ fn main(rt: HostRuntime) -> io::Result<()> {
     let mut proposal = [0; 4096];
     let graph_length = read_front(&rt, "graph.bin", &mut graph);
     let proposal_length = read_front(&rt, "proposal.bin", &mut proposal);
-    let text = report::report(&graph[..graph_length], &proposal[..proposal_length]);
-    let length = text.length;
-    let bytes = text.bytes;
+    let Text { length, bytes } = report::report(
+        &graph[..graph_length],
+        &proposal[..proposal_length],
+    );
     rt.stdout().write_all(&bytes[..length])
 }

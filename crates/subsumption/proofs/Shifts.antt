@@ -23,19 +23,13 @@ counted-few false w = omega arith
 
 -- ── One row ──
 
-module _ (delays : List ℕ) (limit : ℕ) where
-  pub left-none : (left : List ℕ) → length left ≡ 64 → LeftRow delays limit 0 left
-  left-none left size = record { size = size; each = λ a l. absurd (not-suc-le-zero l) }
-
+module _ {delays : List ℕ} {limit : ℕ} where
   pub left-more :
       {k : ℕ} {left : List ℕ} (v : ℕ) → LeftRow delays limit k left → k < 64 → v ≡ limit - at delays k → LeftRow delays limit (k + 1) (set left k v)
   left-more {k} {left} v done few is = record {
     size = length-set left k v ∙ done.size;
     each = stored_more (λ a x. x ≡ limit - at delays a) left v (omega (arith, done.size)) done.each is;
   }
-
-  pub below_none : (row : List ℕ) → length row ≡ 64 → BelowRow delays limit 0 row
-  below_none row size = record { size = size; each = λ b l. absurd (not-suc-le-zero l) }
 
   pub below_more :
       {k : ℕ} {row : List ℕ} (v : ℕ) → BelowRow delays limit k row → k < 64 → v ≡ counted (leb (at delays k + 1) limit) 1
@@ -57,10 +51,7 @@ below-zero delays = record {
       get_or-replicate {A = ℕ} 64 b 0 0 l ∙ sym (ap (λ (x : Bool). counted x 1) (lt-leb (at delays b + 1) 0 (omega arith)));
 }
 
-module _ (less more : ℕ → ℕ) (place : ℕ) where
-  pub row_none : (before : List ℕ) → RowShifted less more place 0 before before
-  row_none before = record { size = refl; inside = λ b l. absurd (not-suc-le-zero l); outside = λ i out. refl }
-
+module _ {less more : ℕ → ℕ} {place : ℕ} where
   pub row_more :
       {k : ℕ} {before after : List ℕ} (v : ℕ) → RowShifted less more place k before after → place + k < length after
       → v + less k ≡ at after (place + k) + more k → RowShifted less more place (k + 1) before (set after (place + k) v)
@@ -96,7 +87,7 @@ unfolding share
 share-left before after limit is =
     ap (λ (l : ℕ). counted (leb (after + 1) l) 1) is ∙ ap (λ (x : Bool). counted x 1) (left-test before after limit)
 
-module _ (from to from' to' : ℕ → ℕ) (limit limit' : ℕ) where
+module _ {from to from' to' : ℕ → ℕ} {limit limit' : ℕ} where
   pub edge_none : (before : List ℕ) → EdgeShifted from to from' to' limit limit' 0 before before
   edge_none before = record { size = refl; inside = λ a b l. absurd (not-suc-le-zero l); outside = λ i out. refl }
 

@@ -16,45 +16,50 @@ ghost use Rattle.subsumption.specs.Subsumption.{subsumes_by, row_at, Still, Left
 use delays::WIDTH;
 use updates::{join_rows, lowered};
 
+// The delays between the tasks of a stage, row by row.
+#[derive(Clone, Copy)]
+struct Delays<'a> {
+    from: &'a [u16],
+    to: &'a [u16],
+    tasks: usize,
+}
+
+// An edge of a stage.
+#[derive(Clone, Copy)]
+struct StageEdge {
+    source: u8,
+    sink: u8,
+    delay: u8,
+}
+
+// What an edge is counted by: a row of delays from its source, a row of delays to its sink and a limit. It is not counted by a limit of 0.
+#[derive(Clone, Copy)]
+struct EdgeRows<'a> {
+    from: &'a [u16],
+    to: &'a [u16],
+    limit: u16,
+}
+
 // 1 if a number is below a limit, else 0: by a signed test, for which plain x86-64 has a vector instruction.
 fn below(x: u16, limit: u16) -> u16
     requires { (x ≤ 32767) × (limit ≤ 32767) }
     ensures { result ≡ counted (leb (x + 1) limit) 1 }
 {
-    if (x as i16) < (limit as i16) {
-        return 1;
-    }
-    0
-}
-
-// What is left of a limit after a delay; nothing if the delay reaches it.
-fn left_of(limit: u16, delay: u16) -> u16
-    ensures { result ≡ limit - delay }
-{
-    if delay <= limit {
-        return limit - delay;
-    }
-    0
+    u16::from((x as i16) < (limit as i16))
 }
 
 // Whether a row of counts has to be looked at: not if as much is left as before, and no more than the least of the other delays that fell.
 fn moves(old: u16, new: u16, fell: u16) -> bool
     ensures { result ≡ false → Still fell old new }
 {
-    if old != new {
-        return true;
-    }
-    fell < new
+    old != new || fell < new
 }
 
 // Whether two numbers are above a third.
 fn both_above(most: u16, x: u16, y: u16) -> bool
     ensures { result ≡ true → (most < x) × (most < y) }
 {
-    if x <= most {
-        return false;
-    }
-    most < y
+    most < x && most < y
 }
 
 // Whether the pair (a, b) subsumes an edge.
@@ -76,33 +81,24 @@ pub fn is_subsumed<'a>(
 }
 
 // The limit of an edge when the pair (a, b) is added: 0 if the pair subsumes it.
-fn limit_after<'a>(
-    from: &'a [u16],
-    to: &'a [u16],
-    a: usize,
-    b: usize,
-    source: u8,
-    sink: u8,
-    delay: u8,
-) -> u16
-    requires { (a < 64) × (b < 64) × (source * 64 + a < length from.now) × (sink * 64 + b < length to.now) }
-    ensures { result ≡ counted (not (subsumes_by from.now to.now a b (edge source sink delay))) (delay + 1) }
+fn limit_after<'a>(before: Delays<'a>, a: usize, b: usize, e: StageEdge) -> u16
+    requires { (a < 64) × (b < 64) × (e.source * 64 + a < length before.from.now) × (e.sink * 64 + b < length before.to.now) }
+    ensures { result ≡ counted (not (subsumes_by before.entry.from.now before.entry.to.now a b (edge e.source e.sink e.delay))) (e.delay + 1) }
 {
-    if is_subsumed(from, to, a, b, source, sink, delay) {
-        return 0;
+    if is_subsumed(before.from, before.to, a, b, e.source, e.sink, e.delay) {
+        0
+    } else {
+        e.delay as u16 + 1
     }
-    delay as u16 + 1
 }
 
-// What each delay of a row leaves of a limit.
+// What each delay of a row leaves of a limit: nothing if it reaches the limit.
 fn left_row(delays: &[u16], limit: u16, left: &mut [u16])
     requires { (length delays.now ≡ 64) × (length left.old ≡ 64) }
     ensures { LeftRow delays.now limit 64 left.new }
 {
-    let mut a = 0;
-    while a < WIDTH {
-        left[a] = left_of(limit, delays[a]);
-        a += 1;
+    for a in 0..WIDTH {
+        left[a] = limit.saturating_sub(delays[a]);
     }
 }
 
@@ -111,10 +107,8 @@ fn row_below(delays: &[u16], limit: u16, row: &mut [u16])
     requires { (length delays.now ≡ 64) × (limit ≤ 32767) × (length row.old ≡ 64) × Small delays.now }
     ensures { BelowRow delays.now limit 64 row.new }
 {
-    let mut b = 0;
-    while b < WIDTH {
+    for b in 0..WIDTH {
         row[b] = below(delays[b], limit);
-        b += 1;
     }
 }
 
@@ -134,73 +128,65 @@ fn exchange_row<'a>(more: &'a [u16], less: &'a [u16], place: usize, counts: &mut
     requires by_index { (b : ℕ) → b < 64 → (at more.now b ≤ 1) × (at less.now b ≤ at counts.old (place + b)) × (at counts.old (place + b) ≤ 256) }
     ensures { RowShifted (λ b. at less.now b) (λ b. at more.now b) place 64 counts.old counts.new }
 {
-    let mut b = 0;
-    while b < WIDTH {
+    for b in 0..WIDTH {
         counts[place + b] = counts[place + b] + more[b] - less[b];
-        b += 1;
     }
 }
 
-// Counts an edge by a row of delays from its source, a row of delays to its sink and a limit, in place of the rows and the limit that it was counted by: not
-// yet with a limit of 0 before, no more with a limit of 0 now. The delays to its sink pass the same tests in both rows by limits up to `fell`.
+// Counts an edge by other rows and another limit than it was counted by. The delays to its sink pass the same tests in both rows by limits up to `fell`.
 fn shift_edge<'a>(
-    from: &'a [u16],
-    to: &'a [u16],
-    next_from: &'a [u16],
-    next_to: &'a [u16],
-    limit: u16,
-    next_limit: u16,
+    was: EdgeRows<'a>,
+    next: EdgeRows<'a>,
     fell: u16,
     tasks: usize,
     counts: &mut [u16],
 )
-    requires from_len { (length from.now ≡ 64) × (length to.now ≡ 64) × (length next_from.now ≡ 64) × (length next_to.now ≡ 64) × Small to.now × Small next_to.now }
-    requires limit_bound { (limit ≤ 32767) × (next_limit ≤ 32767) × (tasks ≤ 64) × (tasks * 64 ≤ length counts.old) × SameTests (at to.now) (at next_to.now) fell }
-    requires covered { Covered (at from.now) (at to.now) limit tasks counts.old }
-    ensures { EdgeShifted (at from.now) (at to.now) (at next_from.now) (at next_to.now) limit next_limit tasks counts.old counts.new }
+    requires from_len { (length was.from.now ≡ 64) × (length was.to.now ≡ 64) × (length next.from.now ≡ 64) × (length next.to.now ≡ 64) × Small was.to.now × Small next.to.now }
+    requires limit_bound { (was.limit ≤ 32767) × (next.limit ≤ 32767) × (tasks ≤ 64) × (tasks * 64 ≤ length counts.old) × SameTests (at was.to.now) (at next.to.now) fell }
+    requires covered { Covered (at was.from.now) (at was.to.now) was.limit tasks counts.old }
+    ensures { EdgeShifted (at was.entry.from.now) (at was.entry.to.now) (at next.entry.from.now) (at next.entry.to.now) was.entry.limit next.entry.limit tasks counts.old counts.new }
 {
-    let mut old: [u16; 64] = [0; 64];
-    let mut new: [u16; 64] = [0; 64];
-    left_row(from, limit, &mut old);
-    left_row(next_from, next_limit, &mut new);
-    let mut more: [u16; 64] = [0; 64];
-    let mut less: [u16; 64] = [0; 64];
+    let mut old = [0; WIDTH];
+    let mut new = [0; WIDTH];
+    left_row(was.from, was.limit, &mut old);
+    left_row(next.from, next.limit, &mut new);
+    let mut more = [0; WIDTH];
+    let mut less = [0; WIDTH];
     let mut last = 0;
     let mut next_last = 0;
-    let mut a = 0;
-    while a < tasks {
+    for a in 0..tasks {
         let before = old[a];
         let after = new[a];
         if moves(before, after, fell) {
-            renew_row(to, last, before, &mut less);
-            renew_row(next_to, next_last, after, &mut more);
+            renew_row(was.to, last, before, &mut less);
+            renew_row(next.to, next_last, after, &mut more);
             last = before;
             next_last = after;
             exchange_row(&more, &less, a * WIDTH, counts);
         }
-        a += 1;
     }
 }
 
 // Counts an edge that was not counted yet, by its limit.
-fn count_edge<'a>(
-    from: &'a [u16],
-    to: &'a [u16],
-    source: usize,
-    sink: usize,
-    limit: u16,
-    tasks: usize,
-    counts: &mut [u16],
-)
-    requires tasks_in_bounds { (tasks * 64 ≤ length from.now) × (tasks * 64 ≤ length to.now) × (tasks * 64 ≤ length counts.old) × Small to.now }
-    requires tasks_bound { (tasks ≤ 64) × (source < tasks) × (sink < tasks) × (limit ≤ 32767) × Covered (row_at from.now source) (row_at to.now sink) 0 tasks counts.old }
-    ensures { EdgeShifted (row_at from.now source) (row_at to.now sink) (row_at from.now source) (row_at to.now sink) 0 limit tasks counts.old counts.new }
+fn count_edge<'a>(delays: Delays<'a>, source: usize, sink: usize, limit: u16, counts: &mut [u16])
+    requires tasks_in_bounds { (delays.tasks * 64 ≤ length delays.from.now) × (delays.tasks * 64 ≤ length delays.to.now) × (delays.tasks * 64 ≤ length counts.old) × Small delays.to.now }
+    requires tasks_bound { (delays.tasks ≤ 64) × (source < delays.tasks) × (sink < delays.tasks) × (limit ≤ 32767) × Covered (row_at delays.from.now source) (row_at delays.to.now sink) 0 delays.tasks counts.old }
+    ensures { EdgeShifted (row_at delays.entry.from.now source) (row_at delays.entry.to.now sink) (row_at delays.entry.from.now source) (row_at delays.entry.to.now sink) 0 limit delays.entry.tasks counts.old counts.new }
 {
     let s = source * WIDTH;
     let t = sink * WIDTH;
-    let before = &from[s..s + WIDTH];
-    let after = &to[t..t + WIDTH];
-    shift_edge(before, after, before, after, 0, limit, limit, tasks, counts);
+    let rows = EdgeRows {
+        from: &delays.from[s..s + WIDTH],
+        to: &delays.to[t..t + WIDTH],
+        limit: 0,
+    };
+    shift_edge(
+        rows,
+        EdgeRows { limit, ..rows },
+        limit,
+        delays.tasks,
+        counts,
+    );
 }
 
 // Counts the edges of a stage, by counts of 0.
@@ -219,66 +205,46 @@ pub fn count_edges<'a>(
     requires small { Small to.now × ((i : ℕ) → at counts.old i ≡ 0) }
     ensures { CountsOf tasks from.now to.now (edges_of source.now sink.now delay.now) counts.new }
 {
-    let mut j = 0;
-    while j < source.len() {
-        count_edge(
-            from,
-            to,
-            source[j] as usize,
-            sink[j] as usize,
-            delay[j] as u16 + 1,
-            tasks,
-            counts,
-        );
-        j += 1;
+    let delays = Delays { from, to, tasks };
+    for j in 0..source.len() {
+        let limit = delay[j] as u16 + 1;
+        count_edge(delays, source[j] as usize, sink[j] as usize, limit, counts);
     }
 }
 
 // Counts one edge anew for the pair (a, b) that is added, by the delays before it and its source's and sink's rows of those after it: no more if the pair
 // subsumes it. It is passed over if no delay that matters to it falls: none does where the ways to the pair are longer than the edge's delay.
-fn shift_one<'a>(
-    from: &'a [u16],
-    to: &'a [u16],
-    tasks: usize,
-    a: usize,
-    b: usize,
-    source: u8,
-    sink: u8,
-    delay: u8,
-    counts: &mut [u16],
-)
-    requires tasks_in_bounds { (tasks * 64 ≤ length from.now) × (tasks * 64 ≤ length to.now) × (tasks * 64 ≤ length counts.old) × Small from.now × Small to.now }
-    requires tasks_bound { (tasks ≤ 64) × (a < tasks) × (b < tasks) × (source < tasks) × (sink < tasks) }
-    requires covered { Covered (row_at from.now source) (row_at to.now sink) (delay + 1) tasks counts.old }
-    ensures { EdgeShifted (row_at from.now source) (row_at to.now sink) (lower_at a b from.now source) (lower_at b a to.now sink) (delay + 1) (counted (not (subsumes_by from.now to.now a b (edge source sink delay))) (delay + 1)) tasks counts.old counts.new }
+fn shift_one<'a>(before: Delays<'a>, a: usize, b: usize, e: StageEdge, counts: &mut [u16])
+    requires tasks_in_bounds { (before.tasks * 64 ≤ length before.from.now) × (before.tasks * 64 ≤ length before.to.now) × (before.tasks * 64 ≤ length counts.old) × Small before.from.now × Small before.to.now }
+    requires tasks_bound { (before.tasks ≤ 64) × (a < before.tasks) × (b < before.tasks) × (e.source < before.tasks) × (e.sink < before.tasks) }
+    requires covered { Covered (row_at before.from.now e.source) (row_at before.to.now e.sink) (e.delay + 1) before.tasks counts.old }
+    ensures { EdgeShifted (row_at before.entry.from.now e.source) (row_at before.entry.to.now e.sink) (lower_at a b before.entry.from.now e.source) (lower_at b a before.entry.to.now e.sink) (e.delay + 1) (counted (not (subsumes_by before.entry.from.now before.entry.to.now a b (edge e.source e.sink e.delay))) (e.delay + 1)) before.entry.tasks counts.old counts.new }
 {
-    let most = delay as u16;
-    let s = source as usize * WIDTH;
-    let t = sink as usize * WIDTH;
-    if both_above(most, from[s + a], to[t + b]) {
+    let most = e.delay as u16;
+    let s = e.source as usize * WIDTH;
+    let t = e.sink as usize * WIDTH;
+    if both_above(most, before.from[s + a], before.to[t + b]) {
         return;
     }
-    let mut next_from: [u16; 64] = [0; 64];
-    let mut next_to: [u16; 64] = [0; 64];
-    let fell_from = lowered(from, source as usize, a, b, &mut next_from);
-    let fell_to = lowered(to, sink as usize, b, a, &mut next_to);
-    let limit = limit_after(from, to, a, b, source, sink, delay);
-    if limit != 0 {
-        if both_above(most, fell_from, fell_to) {
-            return;
-        }
+    let mut next_from = [0; WIDTH];
+    let mut next_to = [0; WIDTH];
+    let fell_from = lowered(before.from, e.source as usize, a, b, &mut next_from);
+    let fell_to = lowered(before.to, e.sink as usize, b, a, &mut next_to);
+    let limit = limit_after(before, a, b, e);
+    if limit != 0 && both_above(most, fell_from, fell_to) {
+        return;
     }
-    shift_edge(
-        &from[s..s + WIDTH],
-        &to[t..t + WIDTH],
-        &next_from,
-        &next_to,
-        most + 1,
+    let was = EdgeRows {
+        from: &before.from[s..s + WIDTH],
+        to: &before.to[t..t + WIDTH],
+        limit: most + 1,
+    };
+    let next = EdgeRows {
+        from: &next_from,
+        to: &next_to,
         limit,
-        fell_to,
-        tasks,
-        counts,
-    );
+    };
+    shift_edge(was, next, fell_to, before.tasks, counts);
 }
 
 // Counts the edges of a stage anew for the pair (a, b) that is added: by the delays before it, those that it leaves are counted by the delays after it.
@@ -286,23 +252,24 @@ fn shift_edges<'a>(
     source: &'a [u8],
     sink: &'a [u8],
     delay: &'a [u8],
-    from: &'a [u16],
-    to: &'a [u16],
-    tasks: usize,
+    before: Delays<'a>,
     a: usize,
     b: usize,
     counts: &mut [u16],
 )
     requires sink_len { (length sink.now ≡ length source.now) × (length delay.now ≡ length source.now) × (length source.now ≤ 256) }
-    requires tasks_in_bounds { (tasks * 64 ≤ length from.now) × (tasks * 64 ≤ length to.now) × Small from.now × Small to.now }
-    requires tasks_bound { (tasks ≤ 64) × (a < tasks) × (b < tasks) × Ends tasks (edges_of source.now sink.now delay.now) }
-    requires counts_of { CountsOf tasks from.now to.now (edges_of source.now sink.now delay.now) counts.old }
-    ensures { (from' to' : List ℕ) → Lowers a b tasks from.now from' → Lowers b a tasks to.now to' → CountsOf tasks from' to' (keep (λ e. not (subsumes_by from.now to.now a b e)) (edges_of source.now sink.now delay.now)) counts.new }
+    requires tasks_in_bounds { (before.tasks * 64 ≤ length before.from.now) × (before.tasks * 64 ≤ length before.to.now) × Small before.from.now × Small before.to.now }
+    requires tasks_bound { (before.tasks ≤ 64) × (a < before.tasks) × (b < before.tasks) × Ends before.tasks (edges_of source.now sink.now delay.now) }
+    requires counts_of { CountsOf before.tasks before.from.now before.to.now (edges_of source.now sink.now delay.now) counts.old }
+    ensures { (from' to' : List ℕ) → Lowers a b before.entry.tasks before.entry.from.now from' → Lowers b a before.entry.tasks before.entry.to.now to' → CountsOf before.entry.tasks from' to' (keep (λ e. not (subsumes_by before.entry.from.now before.entry.to.now a b e)) (edges_of source.now sink.now delay.now)) counts.new }
 {
-    let mut j = 0;
-    while j < source.len() {
-        shift_one(from, to, tasks, a, b, source[j], sink[j], delay[j], counts);
-        j += 1;
+    for j in 0..source.len() {
+        let e = StageEdge {
+            source: source[j],
+            sink: sink[j],
+            delay: delay[j],
+        };
+        shift_one(before, a, b, e, counts);
     }
 }
 
@@ -326,8 +293,9 @@ pub fn add_pair<'a, 'b>(
     ensures delays { RowsJoined a b tasks from.old from.new × RowsJoined b a tasks to.old to.new }
     ensures counts { CountsOf tasks from.new to.new (with_pair (keep (λ e. not (subsumes_by from.old to.old a b e)) (edges_of source.now sink.now delay.now)) a b) counts.new }
 {
-    shift_edges(source, sink, delay, from, to, tasks, a, b, counts);
+    let before = Delays { from, to, tasks };
+    shift_edges(source, sink, delay, before, a, b, counts);
     join_rows(from, tasks, a, b);
     join_rows(to, tasks, b, a);
-    count_edge(from, to, a, b, 1, tasks, counts);
+    count_edge(Delays { from, to, tasks }, a, b, 1, counts);
 }

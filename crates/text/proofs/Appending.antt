@@ -1,23 +1,15 @@
 -- Pieces put one behind the other are their bytes put at once: the part in front of the second piece is what was there and the first piece.
-use mathlib.Core.Path.{◌≡◌, refl, sym, ap, ◌∙◌, subst}
-use mathlib.Core.List.{List, [], ◌∷◌, ◌++◌, append_assoc}
-use Prim.Native.Nat.{ℕ, ◌+◌, ◌≤◌, ◌<◌}
+use mathlib.Core.Path.{◌≡◌, sym, ap, ◌∙◌, subst}
+use mathlib.Core.List.{List, [], ◌++◌, append_assoc}
+use Prim.Native.Nat.{ℕ, ◌+◌, ◌≤◌}
 use native.Mathlib.Nat.{add-zero}
-use native.Mathlib.Numerals.{add-one}
 use native.Mathlib.Omega.{arith}
-use lib.ListN.{length, take, drop, set, length-append, length-drop, take-append-drop}
-use lib.Seq.{length-take-le, take_at, drop-append-add, drop-drop, set_split}
+use lib.ListN.{length, take, drop, length-append, length-drop, take-append-drop}
+use lib.Seq.{length-take-le, take_at, drop-append-add, drop-drop}
 use Rattle.text.specs.Text.{Appended}
 
 pub nothing : (at : ℕ) (xs : List ℕ) → at ≤ length xs → Appended at [] xs xs at
 nothing at xs within = record { next_is = sym (add-zero at); room = within; after_is = sym (take-append-drop at xs) }
-
-pub one : (at b : ℕ) (xs : List ℕ) → at < length xs → Appended at (b ∷ []) xs (set xs at b) (at + 1)
-one at b xs within = record {
-  next_is = refl;
-  room = omega arith;
-  after_is = set_split xs at b within ∙ ap (λ (n : ℕ). take at xs ++ (b ∷ drop n xs)) (sym (add-one at));
-}
 
 -- the same bytes by another name
 pub renamed : {at next : ℕ} {x y xs ys : List ℕ} → x ≡ y → Appended at x xs ys next → Appended at y xs ys next

@@ -1,60 +1,35 @@
--- Numbers below 0 and not below 0, as the machine holds them in 32 bits, and how each is written.
-use mathlib.Core.Path.{◌≡◌, refl, sym, ap, ◌∙◌, subst}
-use mathlib.Core.Bool.{Bool, false, not}
+-- Numbers below 0 and not below 0: how each is written, where y is z as the machine reads it back from its 32 bits.
+use mathlib.Core.Path.{◌≡◌, refl, ap, ◌∙◌}
+use mathlib.Core.Bool.{true, false}
 use mathlib.Core.List.{◌∷◌}
-use Prim.Native.Nat.{ℕ, suc, ◌+◌, ◌^◌, ◌≤◌, ◌<◌}
-use native.Mathlib.Numerals.{add-one}
+use Prim.Native.Nat.{ℕ}
 use native.Mathlib.Omega.{arith}
-use lib.Dec.{T, ltb→lt}
 use lib.IntN.{ℤ, pos, negsuc, nat_abs}
-use lib.ListN.{length}
-use lib.Signed.{◌<ℤ◌, ◌≤ℤ◌, lt_z, lt_z_no, non_neg, yes_non_neg}
+use lib.Signed.{lt_z}
 use mir.Syntax.{w32}
-use mir.Val.{SFits, Fits, to_z, of_z}
+use mir.Val.{SFits, to_z, of_z}
 use mir.ValLaws.{to_z-of_z}
+use Rattle.std.proofs.lemmas.Int.{ints}
 use Rattle.text.specs.Text.{minus, decimal, signed}
-use Rattle.text.proofs.Decimal.{digits-some}
 
-pub record Below (z : ℤ) : Type 0 where
-  pub size : ℕ
-  pub is : z ≡ negsuc size
-  pub fits : size < 2 ^ 31
+abbrev read_back : ℤ → ℤ
+read_back z = to_z w32 (of_z w32 z)
 
-pub below : (z : ℤ) → SFits w32 z → z <ℤ pos 0 → Below z
-below (pos n) f l = let h : n < 0 = ltb→lt n 0 l.lt in absurd (omega arith)
-below (negsuc k) f l = record { size = k; is = refl; fits = f.sfits }
-
--- of a number k + 1 below 0 the size fits
-pub size_fits : {z : ℤ} {k : ℕ} → SFits w32 z → negsuc k ≡ z → k < 2 ^ 31
-size_fits {z} {k} f e = (subst (λ (v : ℤ). SFits w32 v) (sym e) f).sfits
-
-pub signed_below : {z : ℤ} {k : ℕ} → negsuc k ≡ z → minus ∷ decimal (k + 1) ≡ signed z
+below : (z : ℤ) → lt_z z (pos 0) ≡ true → minus ∷ decimal (nat_abs z) ≡ signed z
 unfolding signed
-signed_below {z} {k} e = ap (λ (n : ℕ). minus ∷ decimal n) (add-one k) ∙ ap signed e
+below (pos n) e = absurd (omega (arith, ints))
+below (negsuc n) e = refl
 
--- what a test that found a number not below 0 says
-pub tested : {z : ℤ} → SFits w32 z → lt_z (to_z w32 (of_z w32 z)) (pos 0) ≡ false → pos 0 ≤ℤ z
-tested {z} f e =
-    let found : lt_z z (pos 0) ≡ false = ap (λ (v : ℤ). lt_z v (pos 0)) (sym (to_z-of_z w32 z f)) ∙ e in
-    lt_z_no (subst (λ (t : Bool). T (not t)) (sym found) tt)
-
--- a number that is not below 0, read back from its bits
-pub kept : (z : ℤ) → SFits w32 z → pos 0 ≤ℤ z → T (non_neg (to_z w32 (of_z w32 z))) × Fits w32 (nat_abs (to_z w32 (of_z w32 z)))
-kept (pos n) f l =
-    let small : n < 2 ^ 31 = f.sfits in
-    let fits : n < 2 ^ 32 = omega arith in
-    subst (λ (v : ℤ). T (non_neg v) × Fits w32 (nat_abs v)) (sym (to_z-of_z w32 (pos n) f)) (tt, record { fits = fits })
-kept (negsuc n) f l = absurd (yes_non_neg l)
-
-pub signed-not-below : (z : ℤ) → SFits w32 z → pos 0 ≤ℤ z → decimal (nat_abs (to_z w32 (of_z w32 z))) ≡ signed z
+not-below : (z : ℤ) → lt_z z (pos 0) ≡ false → decimal (nat_abs z) ≡ signed z
 unfolding signed
-signed-not-below (pos n) f l = ap (λ (v : ℤ). decimal (nat_abs v)) (to_z-of_z w32 (pos n) f)
-signed-not-below (negsuc n) f l = absurd (yes_non_neg l)
+not-below (pos n) e = refl
+not-below (negsuc n) e = absurd (omega (arith, ints))
 
-pub signed-some : (z : ℤ) → 1 ≤ length (signed z)
-unfolding signed
-signed-some (pos n) = digits-some n
-signed-some (negsuc n) = omega (arith, digits-some (suc n))
+pub signed_below : {z : ℤ} {size : ℕ} → SFits w32 z → size ≡ nat_abs (read_back z) → lt_z (read_back z) (pos 0) ≡ true → minus ∷ decimal size ≡ signed z
+signed_below {z} f is e = ap (λ (n : ℕ). minus ∷ decimal n) is ∙ (below (read_back z) e ∙ ap signed (to_z-of_z w32 z f))
+
+pub signed-not-below : {z : ℤ} {size : ℕ} → SFits w32 z → size ≡ nat_abs (read_back z) → lt_z (read_back z) (pos 0) ≡ false → decimal size ≡ signed z
+signed-not-below {z} f is e = ap decimal is ∙ (not-below (read_back z) e ∙ ap signed (to_z-of_z w32 z f))
 
 -- a number read back from its bits is written the same
 pub signed-kept : (z : ℤ) → SFits w32 z → signed (to_z w32 (of_z w32 z)) ≡ signed z

@@ -5,9 +5,9 @@ ghost use Rattle.std.specs.Prelude.{◌≡◌, ℕ, ◌+◌, ◌*◌, ◌≤◌,
 ghost use Rattle.records.specs.Columns.{at};
 ghost use Rattle.updates.specs.Updates.{Small, LineSpread, Spread, RowFell, RowLowered, RowsJoined};
 
-use delays::{FAR, WIDTH, copy_row, lesser, nearer};
+use delays::{FAR, WIDTH, nearer};
 
-// No entry fell: above every entry, and the largest number that fits a signed test.
+// No entry fell: above every entry, and the largest number that fits a signed test. No Option: the least of 64 numbers is to be found by vector instructions.
 const NO_FALL: u16 = 32767;
 
 // A number if it fell below what it was, else one above all delays.
@@ -17,9 +17,10 @@ fn fallen(before: u16, after: u16) -> u16
     ensures less { after < before → result ≡ after }
 {
     if (after as i16) < (before as i16) {
-        return after;
+        after
+    } else {
+        NO_FALL
     }
-    NO_FALL
 }
 
 // Copies one line of a table: entries that stand a step apart, cut at 16,383, one after the other.
@@ -35,12 +36,8 @@ fn spread_line(
     requires first_bound { (first ≤ 4096) × (step ≤ 64) × ((b : ℕ) → b < tasks → first + b * step < length table.now) }
     ensures { LineSpread table.now first step start tasks lines.old lines.new }
 {
-    let mut place = first;
-    let mut b = 0;
-    while b < tasks {
-        lines[start + b] = lesser(table[place], FAR);
-        place += step;
-        b += 1;
+    for b in 0..tasks {
+        lines[start + b] = table[first + b * step].min(FAR);
     }
 }
 
@@ -51,12 +48,8 @@ pub fn spread(table: &[u16], outer: usize, inner: usize, tasks: usize, lines: &m
     requires by_index { (a b : ℕ) → a < tasks → b < tasks → a * outer + b * inner < length table.now }
     ensures { Spread table.now outer inner tasks lines.new }
 {
-    let mut first = 0;
-    let mut a = 0;
-    while a < tasks {
-        spread_line(table, first, inner, tasks, a * WIDTH, lines);
-        first += outer;
-        a += 1;
+    for a in 0..tasks {
+        spread_line(table, a * outer, inner, tasks, a * WIDTH, lines);
     }
 }
 
@@ -67,13 +60,11 @@ fn lower_row(way: u16, onward: &[u16], start: usize, rows: &mut [u16]) -> u16
     ensures { RowFell way onward.now start 64 rows.old rows.new result }
 {
     let mut least = NO_FALL;
-    let mut y = 0;
-    while y < WIDTH {
+    for y in 0..WIDTH {
         let before = rows[start + y];
         let after = nearer(before, way + onward[y]);
         least = nearer(least, fallen(before, after));
         rows[start + y] = after;
-        y += 1;
     }
     least
 }
@@ -86,7 +77,7 @@ pub fn lowered(rows: &[u16], x: usize, near: usize, far: usize, row: &mut [u16])
 {
     let start = x * WIDTH;
     let first = far * WIDTH;
-    copy_row(rows, start, row);
+    row.copy_from_slice(&rows[start..start + WIDTH]);
     lower_row(rows[start + near], &rows[first..first + WIDTH], 0, row)
 }
 
@@ -95,15 +86,14 @@ pub fn join_rows(rows: &mut [u16], tasks: usize, near: usize, far: usize)
     requires { (tasks ≤ 64) × (near < 64) × (far < tasks) × (tasks * 64 ≤ length rows.old) × Small rows.old }
     ensures { RowsJoined near far tasks rows.old rows.new }
 {
-    let mut onward: [u16; 64] = [0; 64];
-    copy_row(rows, far * WIDTH, &mut onward);
-    let mut x = 0;
-    while x < tasks {
+    let first = far * WIDTH;
+    let mut onward = [0; WIDTH];
+    onward.copy_from_slice(&rows[first..first + WIDTH]);
+    for x in 0..tasks {
         let start = x * WIDTH;
         let way = rows[start + near];
         if way != FAR {
             lower_row(way, &onward, start, rows);
         }
-        x += 1;
     }
 }

@@ -10,29 +10,11 @@ use Rattle.delays.proofs.hand_over.Goals as goal
 pub loop-place-init : goal.loop-place-init
 loop-place-init c = part_none 0 (λ i. widened (get_or c.args.row.now i 0)) c.args.out.now
 
-pub offset_bounds-row-place : goal.offset_bounds-row-place
-offset_bounds-row-place c = omega (arith, c.loop-place.invariant.size, c.requires)
-
-pub bounds-row-place : goal.bounds-row-place
-bounds-row-place c = omega (arith, c.loop-place.invariant.size, c.requires)
-
-pub offset_bounds-out-place : goal.offset_bounds-out-place
-offset_bounds-out-place c = omega (arith, c.loop-place.invariant.size, c.requires)
-
-pub bounds-out-place : goal.bounds-out-place
-bounds-out-place c = omega (arith, c.loop-place.invariant.size, c.requires)
-
-pub loop-place-smaller : goal.loop-place-smaller
-loop-place-smaller c = omega (arith, c.loop-place.invariant.size, c.loop-place-test.true)
-
 pub loop-place-preserved : goal.loop-place-preserved
 loop-place-preserved c =
     let place = c.loop-place.place in
     let start : place ≡ 0 + place = omega arith in
     part-more c.loop-place.invariant place c.widen.result start (omega arith) c.widen.ensures
-
-pub shape_of-out : goal.shape_of-out
-shape_of-out c = c.loop-place.invariant.size
 
 pub returns : goal.returns
 returns c = record { size = c.loop-place.invariant.size; each = λ b l. front-done c.loop-place.invariant b (omega (arith, c.loop-place.invariant.size)) }

@@ -10,38 +10,29 @@ use Rattle.delays.proofs.Table.{rows_none, rows_next, rows_all}
 use Rattle.delays.proofs.Steps.{fit_wide, steps-known}
 use Rattle.delays.proofs.least_table.Goals as goal
 
-pub slice_bounds-take_steps-end : goal.slice_bounds-take_steps-end
-slice_bounds-take_steps-end c = refl
-
 pub take_steps-requires : goal.take_steps-requires
 take_steps-requires c = record { sink_len = c.requires.sink_len; fit = fit_wide c.requires.tasks_bound.0 c.requires.fit; square_value = refl }
 
 pub loop-a-init : goal.loop-a-init
-loop-a-init c = (omega arith, refl, steps-known c.requires.tasks_bound.0 c.requires.fit c.take_steps.ensures, sym (rows_none c.args.tasks (edges_of c.args.source.now c.args.sink.now c.args.delay.now) c.args.table.now))
-
-pub slice_bounds-fill_row-end : goal.slice_bounds-fill_row-end
-slice_bounds-fill_row-end c = sym c.loop-a.invariant.2.size
+loop-a-init c = (refl, steps-known c.requires.tasks_bound.0 c.requires.fit c.take_steps.ensures, sym (rows_none c.args.tasks (edges_of c.args.source.now c.args.sink.now c.args.delay.now) c.args.table.now))
 
 pub fill_row-done-requires : goal.fill_row-done-requires
-fill_row-done-requires c = (omega (arith, c.loop-a.invariant.0, c.loop-a-test.true), omega (arith, c.loop-a.invariant.1, c.requires.tasks_bound.1), (edges_of c.args.source.now c.args.sink.now c.args.delay.now, c.loop-a.invariant.2))
+fill_row-done-requires c = (omega arith, omega (arith, c.requires.tasks_bound.1), (edges_of c.args.source.now c.args.sink.now c.args.delay.now, c.loop-a.invariant.1))
 
 pub loop-a-preserved : goal.loop-a-preserved
 loop-a-preserved c =
-    let inner : c.loop-a.a - 1 < c.args.tasks = omega (arith, c.loop-a.invariant.0, c.loop-a-test.true) in
-    let last : c.loop-a.a ≡ suc (c.loop-a.a - 1) = omega (arith, c.loop-a-test.true) in (
-      omega (arith, inner),
-      omega (arith, c.loop-a.invariant.1),
-      c.fill_row-done.ensures.known (edges_of c.args.source.now c.args.sink.now c.args.delay.now) c.loop-a.invariant.2,
-      c.fill_row-done.ensures.row (edges_of c.args.source.now c.args.sink.now c.args.delay.now) c.loop-a.invariant.2 ∙
-          (ap (λ (xs : List ℕ). with_row c.args.tasks (edges_of c.args.source.now c.args.sink.now c.args.delay.now) (c.loop-a.a - 1) xs)
-          (c.loop-a.invariant.3 ∙ ap (λ (k : ℕ). rows_from c.args.tasks (edges_of c.args.source.now c.args.sink.now c.args.delay.now) k c.args.table.now) last) ∙
-          rows_next c.args.tasks (edges_of c.args.source.now c.args.sink.now c.args.delay.now) c.args.table.now (c.loop-a.a - 1) inner c.requires.tasks_bound.1),
+    let es = edges_of c.args.source.now c.args.sink.now c.args.delay.now in
+    let inner : c.loop-a.a - 1 < c.args.tasks = omega arith in
+    let last : c.loop-a.a ≡ suc (c.loop-a.a - 1) = omega arith in (
+      omega (arith, c.loop-a.invariant.0),
+      c.fill_row-done.ensures.known es c.loop-a.invariant.1,
+      c.fill_row-done.ensures.row es c.loop-a.invariant.1 ∙
+          (ap (λ (xs : List ℕ). with_row c.args.tasks es (c.loop-a.a - 1) xs)
+          (c.loop-a.invariant.2 ∙ ap (λ (k : ℕ). rows_from c.args.tasks es k c.args.table.now) last) ∙
+          rows_next c.args.tasks es c.args.table.now (c.loop-a.a - 1) inner c.requires.tasks_bound.1),
     )
-
-pub shape_of-table : goal.shape_of-table
-shape_of-table c = c.loop-a.invariant.1
 
 pub returns : goal.returns
 returns c =
     let none : c.loop-a.a ≡ 0 = omega (arith, c.loop-a-test.false) in
-    c.loop-a.invariant.3 ∙ (ap (λ (k : ℕ). rows_from c.args.tasks (edges_of c.args.source.now c.args.sink.now c.args.delay.now) k c.args.table.now) none ∙ rows_all c.args.tasks (edges_of c.args.source.now c.args.sink.now c.args.delay.now) c.args.table.now c.requires.tasks_bound.1)
+    c.loop-a.invariant.2 ∙ (ap (λ (k : ℕ). rows_from c.args.tasks (edges_of c.args.source.now c.args.sink.now c.args.delay.now) k c.args.table.now) none ∙ rows_all c.args.tasks (edges_of c.args.source.now c.args.sink.now c.args.delay.now) c.args.table.now c.requires.tasks_bound.1)

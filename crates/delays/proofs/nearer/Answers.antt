@@ -8,7 +8,7 @@ returns-then-b-a c =
     let less = signed-less c.args.b c.args.a c.requires.1 c.requires.0 c.if-b-a.true in
     omega arith
 
-pub returns : goal.returns
-returns c =
+pub returns-else-b-a : goal.returns-else-b-a
+returns-else-b-a c =
     let not-less = signed-not-less c.args.b c.args.a c.requires.1 c.requires.0 c.if-b-a.false in
     omega arith

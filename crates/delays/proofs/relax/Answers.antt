@@ -9,39 +9,14 @@ use Rattle.delays.proofs.relax.Goals as goal
 pub loop-b-init : goal.loop-b-init
 loop-b-init c =
     let args = c.args in
-    (omega arith, part_none 0 (λ i. min (get_or args.row.now i 0) (args.way + get_or args.known.now (args.start + i) 0)) args.row.now)
-
-pub offset_bounds-row-b : goal.offset_bounds-row-b
-offset_bounds-row-b c = omega (arith, c.requires.start_in_bounds.2.size, c.loop-b.invariant.1.size)
-
-pub bounds-row-b : goal.bounds-row-b
-bounds-row-b c = omega (arith, c.requires.start_in_bounds.2.size, c.loop-b.invariant.1.size)
-
-pub overflow_add-start : goal.overflow_add-start
-overflow_add-start c = omega (arith, c.requires.start_in_bounds.0, c.ranges)
-
-pub offset_bounds-known-start : goal.offset_bounds-known-start
-offset_bounds-known-start c = omega (arith, c.requires.start_in_bounds.0, c.ranges)
-
-pub bounds-known-start : goal.bounds-known-start
-bounds-known-start c = omega (arith, c.requires.start_in_bounds.0)
-
-pub overflow_add-way : goal.overflow_add-way
-overflow_add-way c =
-    omega (arith, c.requires.start_in_bounds.1, c.requires.by_index c.loop-b.b c.loop-b-test.true)
+    part_none 0 (λ i. min (get_or args.row.now i 0) (args.way + get_or args.known.now (args.start + i) 0)) args.row.now
 
 pub nearer-requires : goal.nearer-requires
 nearer-requires c =
     let b = c.loop-b.b in
     let below = c.loop-b-test.true in
     let place : b ≡ 0 + b = omega arith in
-    (omega (arith, c.requires.start_in_bounds.2.each b below, part-next c.loop-b.invariant.1 b place), omega (arith, c.requires.start_in_bounds.1, c.requires.by_index b below))
-
-pub offset_bounds-row-b-in-loop-b : goal.offset_bounds-row-b-in-loop-b
-offset_bounds-row-b-in-loop-b c = omega (arith, c.requires.start_in_bounds.2.size, c.loop-b.invariant.1.size)
-
-pub bounds-row-b-in-loop-b : goal.bounds-row-b-in-loop-b
-bounds-row-b-in-loop-b c = omega (arith, c.requires.start_in_bounds.2.size, c.loop-b.invariant.1.size)
+    (omega (arith, c.requires.start_in_bounds.2.each b below, part-next c.loop-b.invariant b place), omega (arith, c.requires.start_in_bounds.1, c.requires.by_index b below))
 
 pub loop-b-preserved : goal.loop-b-preserved
 loop-b-preserved c =
@@ -49,17 +24,14 @@ loop-b-preserved c =
     let loop = c.loop-b in
     let b = loop.b in
     let place : b ≡ 0 + b = omega arith in
-    let inside : b < length loop.row = omega (arith, loop.invariant.1.size, c.requires.start_in_bounds.2.size) in
+    let inside : b < length loop.row = omega (arith, loop.invariant.size, c.requires.start_in_bounds.2.size) in
     let value : c.nearer.result ≡ min (get_or args.row.now b 0) (args.way + get_or args.known.now (args.start + b) 0) =
-    omega (arith, c.nearer.ensures, part-next loop.invariant.1 b place) in
-    (omega arith, part-more loop.invariant.1 b c.nearer.result place inside value)
-
-pub shape_of-row : goal.shape_of-row
-shape_of-row c = c.loop-b.invariant.1.size
+    omega (arith, c.nearer.ensures, part-next loop.invariant b place) in
+    part-more loop.invariant b c.nearer.result place inside value
 
 pub returns : goal.returns
 returns c =
-    let done = c.loop-b.invariant.1 in
+    let done = c.loop-b.invariant in
     let low = c.requires.start_in_bounds.2 in
     record {
       low = record {

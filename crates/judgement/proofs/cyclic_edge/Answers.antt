@@ -5,7 +5,7 @@ use Prim.Native.Nat.{ℕ, ◌<◌}
 use native.Mathlib.Numerals.{add-one}
 use native.Mathlib.Omega.{arith}
 use lib.ListN.{length, get_or}
-use borrow.Author.Count.{below_none, below_more}
+use borrow.Author.Count.{below_more}
 use Rattle.model.specs.Compute.{present, least_delay}
 use Rattle.records.specs.Columns.{at}
 use Rattle.reach.specs.Reach.{bit}
@@ -31,16 +31,9 @@ module _ (source sink processor : List ℕ) (ends : (j : ℕ) → j < length sou
     sink-small : p ≡ at processor (get_or sink j 0) → j < length source → p < 16
     sink-small is below = subst (λ (k : ℕ). k < 16) (sym is) (small (get_or sink j 0) (sink_below below))
 
-pub loop-j-init : goal.loop-j-init
-loop-j-init c =
-    (omega arith, below_none (NoneBack c.args.source.now c.args.sink.now c.args.processor.now c.args.words.now))
-
 pub processor_of-from-requires : goal.processor_of-from-requires
 processor_of-from-requires c =
     source_below c.args.source.now c.args.sink.now c.args.processor.now c.requires.by_index_2 (omega (arith, c.loop-j-test.true))
-
-pub bounds-sink-j : goal.bounds-sink-j
-bounds-sink-j c = omega (arith, c.loop-j-test.true, c.requires.sink_len.0)
 
 pub processor_of-to-requires : goal.processor_of-to-requires
 processor_of-to-requires c =
@@ -53,14 +46,6 @@ leads_to-requires c =
     let from = source-small c.args.source.now c.args.sink.now c.args.processor.now c.requires.by_index_2 c.requires.by_index c.processor_of-from.ensures (omega (arith, below)) in
     (omega (arith, to, from, c.requires.sink_len.2), omega (arith, to, from))
 
-pub overflow_cast-place : goal.overflow_cast-place
-overflow_cast-place c =
-    omega (arith, c.loop-j-test.true, c.requires.sink_len.1)
-
-pub overflow_add-place : goal.overflow_add-place
-overflow_add-place c =
-    omega (arith, c.loop-j-test.true, c.requires.sink_len.1)
-
 pub returns-then-leads_to : goal.returns-then-leads_to
 unfolding first_cyclic at
 returns-then-leads_to c =
@@ -72,7 +57,7 @@ returns-then-leads_to c =
     λ rs is.
     ap (λ (k : ℕ). record { number = 13; place = k }) (add-one j) ∙
     sym (found_first (length source) 13 (λ i. present (least_delay (length c.args.processor.now) rs (get_or sink i 0) (get_or source i 0))) (λ z. omega arith) j below
-    (λ i earlier. c.loop-j.invariant.1 i earlier rs is)
+    (λ i earlier. c.loop-j.invariant i earlier rs is)
     (sym (is.paths (get_or sink j 0) (get_or source j 0) ends.1 ends.0) ∙
     ((λ i. bit (get_or c.args.words.now (sym c.processor_of-to.ensures i) 0) (sym c.processor_of-from.ensures i)) ∙ (sym c.leads_to.ensures ∙ c.if-leads_to.true))))
 
@@ -82,16 +67,14 @@ loop-j-preserved c =
     let source = c.args.source.now in
     let sink = c.args.sink.now in
     let j = c.loop-j.j in
-    let ends = c.requires.by_index_2 c.loop-j.j c.loop-j-test.true in (
-      omega arith,
-      below_more (NoneBack source sink c.args.processor.now c.args.words.now) j c.loop-j.invariant.1
-          (λ rs is.
-          sym (is.paths (get_or sink j 0) (get_or source j 0) ends.1 ends.0) ∙
-          ((λ i. bit (get_or c.args.words.now (sym c.processor_of-to.ensures i) 0) (sym c.processor_of-from.ensures i)) ∙ (sym c.leads_to.ensures ∙ c.if-leads_to.false))),
-    )
+    let ends = c.requires.by_index_2 c.loop-j.j c.loop-j-test.true in
+    below_more (NoneBack source sink c.args.processor.now c.args.words.now) j c.loop-j.invariant
+    (λ rs is.
+    sym (is.paths (get_or sink j 0) (get_or source j 0) ends.1 ends.0) ∙
+    ((λ i. bit (get_or c.args.words.now (sym c.processor_of-to.ensures i) 0) (sym c.processor_of-from.ensures i)) ∙ (sym c.leads_to.ensures ∙ c.if-leads_to.false)))
 
 pub returns : goal.returns
 unfolding first_cyclic at
 returns c = λ rs is.
     sym (found_nowhere (length c.args.source.now) 13 (λ i. present (least_delay (length c.args.processor.now) rs (get_or c.args.sink.now i 0) (get_or c.args.source.now i 0)))
-    (λ i below. c.loop-j.invariant.1 i (omega (arith, below, c.loop-j-test.false)) rs is))
+    (λ i below. c.loop-j.invariant i (omega arith) rs is))

@@ -2,7 +2,7 @@
 use mathlib.Core.Path.{◌≡◌}
 use mathlib.Core.Bool.{false}
 use mathlib.Core.List.{List}
-use Prim.Native.Nat.{ℕ, ◌-◌, ◌≤◌, ◌<◌}
+use Prim.Native.Nat.{ℕ, ◌<◌}
 use lib.ListN.{length, get_or}
 use Rattle.model.specs.Tasks.{Edge}
 use Rattle.model.specs.Compute.{present, least_delay}
@@ -15,7 +15,4 @@ NoneBack source sink processor words i =
     (rs : List Edge) → ReachesOn (length processor) rs processor words → present (least_delay (length processor) rs (get_or sink i 0) (get_or source i 0)) ≡ false
 
 abbrev pub invariant-loop-j : goal.invariant-loop-j
-invariant-loop-j l = (l.j ≤ length l.source) × ((i : ℕ) → i < l.j → NoneBack l.source l.sink l.processor l.words i)
-
-abbrev pub decreases-loop-j : goal.decreases-loop-j
-decreases-loop-j l = length l.source - l.j
+invariant-loop-j l = ((i : ℕ) → i < l.j → NoneBack l.source l.sink l.processor l.words i)

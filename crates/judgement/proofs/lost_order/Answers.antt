@@ -1,6 +1,6 @@
 -- `judgement::lost_order` meets its contract: the orders looked at so far are held. One is held where the entry of its ends is within its delay, and lost where
 -- that entry is above it in a finished row.
-use mathlib.Core.Path.{◌≡◌, refl, sym, ap, ◌∙◌}
+use mathlib.Core.Path.{◌≡◌, refl, ap, ◌∙◌}
 use mathlib.Core.Bool.{true}
 use Prim.Native.Nat.{ℕ, ◌+◌, ◌*◌, ◌≤◌}
 use native.Mathlib.Numerals.{add-one}
@@ -14,86 +14,23 @@ use Rattle.judgement.proofs.Orders.{held, place, moved, order-held, order_lost, 
 use Rattle.judgement.proofs.lost_order.Goals as goal
 use Rattle.judgement.proofs.lost_order.Goals.{then-most-known+else-most-known-2, else-most-known}
 
-pub slice_bounds-take_steps-end : goal.slice_bounds-take_steps-end
-slice_bounds-take_steps-end c = refl
-
 pub take_steps-requires : goal.take_steps-requires
 take_steps-requires c = record { sink_len = c.requires.result_sink_len; fit = fit_wide c.requires.tasks_in_bounds.2 c.requires.fit_2; square_value = refl }
 
 pub loop-j-init : goal.loop-j-init
-loop-j-init c = (omega (arith, c.requires.tasks_in_bounds.0), steps-known c.requires.tasks_in_bounds.2 c.requires.fit_2 c.take_steps.ensures, below_none (λ i. held c.args.source.now c.args.sink.now c.args.delay.now (edges_of c.args.result_source.now c.args.result_sink.now c.args.result_delay.now) c.requires.fit i ≡ true))
-
-pub overflow_add-tasks : goal.overflow_add-tasks
-overflow_add-tasks c = omega (arith, c.loop-j.invariant.0, c.requires.tasks_in_bounds.1)
-
-pub overflow_add-from : goal.overflow_add-from
-overflow_add-from c = omega (arith, c.loop-j.invariant.0, c.requires.tasks_in_bounds.1)
-
-pub bounds-source-tasks : goal.bounds-source-tasks
-bounds-source-tasks c = omega (arith, c.loop-j-test.true)
-
-pub overflow_cast-from : goal.overflow_cast-from
-overflow_cast-from c = omega (arith, c.type_inv.source (c.args.tasks + c.loop-j.j))
-
-pub overflow_mul-at : goal.overflow_mul-at
-overflow_mul-at c = omega (arith, place c.args.source.now c.args.sink.now c.args.delay.now (edges_of c.args.result_source.now c.args.result_sink.now c.args.result_delay.now) c.requires.fit c.loop-j.j c.requires.tasks_in_bounds.2 c.loop-j-test.true)
-
-pub overflow_add-at : goal.overflow_add-at
-overflow_add-at c = omega (arith, c.loop-j.invariant.0, c.requires.tasks_in_bounds.1)
-
-pub bounds-sink-tasks : goal.bounds-sink-tasks
-bounds-sink-tasks c = omega (arith, c.loop-j-test.true, c.requires.sink_len.0)
-
-pub overflow_cast-at : goal.overflow_cast-at
-overflow_cast-at c = omega (arith, c.type_inv.sink (c.args.tasks + c.loop-j.j))
-
-pub overflow_add-at-in-loop-j : goal.overflow_add-at-in-loop-j
-overflow_add-at-in-loop-j c = omega (arith, place c.args.source.now c.args.sink.now c.args.delay.now (edges_of c.args.result_source.now c.args.result_sink.now c.args.result_delay.now) c.requires.fit c.loop-j.j c.requires.tasks_in_bounds.2 c.loop-j-test.true)
-
-pub overflow_add-most : goal.overflow_add-most
-overflow_add-most c = omega (arith, c.loop-j.invariant.0, c.requires.tasks_in_bounds.1)
-
-pub bounds-delay-tasks : goal.bounds-delay-tasks
-bounds-delay-tasks c = omega (arith, c.loop-j-test.true, c.requires.sink_len.1)
-
-pub overflow_cast-most : goal.overflow_cast-most
-overflow_cast-most c = omega (arith, c.type_inv.delay (c.args.tasks + c.loop-j.j))
-
-pub offset_bounds-known-at : goal.offset_bounds-known-at
-offset_bounds-known-at c = omega (arith, place c.args.source.now c.args.sink.now c.args.delay.now (edges_of c.args.result_source.now c.args.result_sink.now c.args.result_delay.now) c.requires.fit c.loop-j.j c.requires.tasks_in_bounds.2 c.loop-j-test.true)
+loop-j-init c = (steps-known c.requires.tasks_in_bounds.2 c.requires.fit_2 c.take_steps.ensures, below_none (λ i. held c.args.source.now c.args.sink.now c.args.delay.now (edges_of c.args.result_source.now c.args.result_sink.now c.args.result_delay.now) c.requires.fit i ≡ true))
 
 pub bounds-known-at : goal.bounds-known-at
-bounds-known-at c = omega (arith, place c.args.source.now c.args.sink.now c.args.delay.now (edges_of c.args.result_source.now c.args.result_sink.now c.args.result_delay.now) c.requires.fit c.loop-j.j c.requires.tasks_in_bounds.2 c.loop-j-test.true, c.loop-j.invariant.1.size)
-
-pub slice_bounds-finish_row-end : goal.slice_bounds-finish_row-end
-slice_bounds-finish_row-end c = sym c.loop-j.invariant.1.size
+bounds-known-at c = omega (arith, place c.args.source.now c.args.sink.now c.args.delay.now (edges_of c.args.result_source.now c.args.result_sink.now c.args.result_delay.now) c.requires.fit c.loop-j.j c.requires.tasks_in_bounds.2 c.loop-j-test.true, c.loop-j.invariant.0.size)
 
 pub finish_row-done-requires : goal.finish_row-done-requires
-finish_row-done-requires c = (omega (arith, place c.args.source.now c.args.sink.now c.args.delay.now (edges_of c.args.result_source.now c.args.result_sink.now c.args.result_delay.now) c.requires.fit c.loop-j.j c.requires.tasks_in_bounds.2 c.loop-j-test.true), ((edges_of c.args.result_source.now c.args.result_sink.now c.args.result_delay.now), c.loop-j.invariant.1))
-
-pub offset_bounds-known-at-then-most-known : goal.offset_bounds-known-at-then-most-known
-offset_bounds-known-at-then-most-known c = omega (arith, place c.args.source.now c.args.sink.now c.args.delay.now (edges_of c.args.result_source.now c.args.result_sink.now c.args.result_delay.now) c.requires.fit c.loop-j.j c.requires.tasks_in_bounds.2 c.loop-j-test.true)
-
-pub bounds-known-at-then-most-known : goal.bounds-known-at-then-most-known
-bounds-known-at-then-most-known c = omega (arith, place c.args.source.now c.args.sink.now c.args.delay.now (edges_of c.args.result_source.now c.args.result_sink.now c.args.result_delay.now) c.requires.fit c.loop-j.j c.requires.tasks_in_bounds.2 c.loop-j-test.true, (c.finish_row-done.ensures.known (edges_of c.args.result_source.now c.args.result_sink.now c.args.result_delay.now) c.loop-j.invariant.1).size)
-
-pub overflow_cast-result : goal.overflow_cast-result
-overflow_cast-result c = omega (arith, c.loop-j-test.true, c.requires.tasks_in_bounds.1)
-
-pub overflow_add-result : goal.overflow_add-result
-overflow_add-result c = omega (arith, c.loop-j-test.true, c.requires.tasks_in_bounds.1)
+finish_row-done-requires c = (omega (arith, place c.args.source.now c.args.sink.now c.args.delay.now (edges_of c.args.result_source.now c.args.result_sink.now c.args.result_delay.now) c.requires.fit c.loop-j.j c.requires.tasks_in_bounds.2 c.loop-j-test.true), ((edges_of c.args.result_source.now c.args.result_sink.now c.args.result_delay.now), c.loop-j.invariant.0))
 
 pub returns-then-most-known-2 : goal.returns-then-most-known-2
 returns-then-most-known-2 c =
-    let square = c.finish_row-done.ensures.known (edges_of c.args.result_source.now c.args.result_sink.now c.args.result_delay.now) c.loop-j.invariant.1 in
+    let square = c.finish_row-done.ensures.known (edges_of c.args.result_source.now c.args.result_sink.now c.args.result_delay.now) c.loop-j.invariant.0 in
     ap (λ (k : ℕ). record { number = 14; place = k }) (add-one c.loop-j.j) ∙
-    first-lost c.args.source.now c.args.sink.now c.args.delay.now (edges_of c.args.result_source.now c.args.result_sink.now c.args.result_delay.now) c.requires.fit c.loop-j.j c.loop-j-test.true c.loop-j.invariant.2 (order_lost c.args.source.now c.args.sink.now c.args.delay.now (edges_of c.args.result_source.now c.args.result_sink.now c.args.result_delay.now) c.requires.fit c.loop-j.j square c.loop-j-test.true c.finish_row-done.ensures.done c.if-most-known-2.true)
-
-pub overflow_add-j : goal.overflow_add-j
-overflow_add-j c = omega (arith, c.loop-j-test.true, c.requires.tasks_in_bounds.1)
-
-pub loop-j-smaller : goal.loop-j-smaller
-loop-j-smaller c = omega (arith, c.loop-j-test.true)
+    first-lost c.args.source.now c.args.sink.now c.args.delay.now (edges_of c.args.result_source.now c.args.result_sink.now c.args.result_delay.now) c.requires.fit c.loop-j.j c.loop-j-test.true c.loop-j.invariant.1 (order_lost c.args.source.now c.args.sink.now c.args.delay.now (edges_of c.args.result_source.now c.args.result_sink.now c.args.result_delay.now) c.requires.fit c.loop-j.j square c.loop-j-test.true c.finish_row-done.ensures.done c.if-most-known-2.true)
 
 pub loop-j-preserved : goal.loop-j-preserved
 loop-j-preserved c =
@@ -103,14 +40,13 @@ loop-j-preserved c =
     elim c.if-most-known.branch [
       | then-most-known+else-most-known-2 w ↦
           moved place (get_or c.args.delay.now k 0) w.known-is w.done-is
-          (w.finish_row-done.ensures.known (edges_of c.args.result_source.now c.args.result_sink.now c.args.result_delay.now) c.loop-j.invariant.1)
+          (w.finish_row-done.ensures.known (edges_of c.args.result_source.now c.args.result_sink.now c.args.result_delay.now) c.loop-j.invariant.0)
           w.if-most-known-2.false
-      | else-most-known w ↦ moved place (get_or c.args.delay.now k 0) w.known-is w.done-is c.loop-j.invariant.1 w.if-most-known.false
+      | else-most-known w ↦ moved place (get_or c.args.delay.now k 0) w.known-is w.done-is c.loop-j.invariant.0 w.if-most-known.false
     ] in (
-      omega (arith, c.loop-j-test.true),
       now.0,
-      below_more (λ i. held c.args.source.now c.args.sink.now c.args.delay.now (edges_of c.args.result_source.now c.args.result_sink.now c.args.result_delay.now) c.requires.fit i ≡ true) c.loop-j.j c.loop-j.invariant.2 (order-held c.args.source.now c.args.sink.now c.args.delay.now (edges_of c.args.result_source.now c.args.result_sink.now c.args.result_delay.now) c.requires.fit c.loop-j.j now.0 c.loop-j-test.true now.1),
+      below_more (λ i. held c.args.source.now c.args.sink.now c.args.delay.now (edges_of c.args.result_source.now c.args.result_sink.now c.args.result_delay.now) c.requires.fit i ≡ true) c.loop-j.j c.loop-j.invariant.1 (order-held c.args.source.now c.args.sink.now c.args.delay.now (edges_of c.args.result_source.now c.args.result_sink.now c.args.result_delay.now) c.requires.fit c.loop-j.j now.0 c.loop-j-test.true now.1),
     )
 
 pub returns : goal.returns
-returns c = none-lost c.args.source.now c.args.sink.now c.args.delay.now (edges_of c.args.result_source.now c.args.result_sink.now c.args.result_delay.now) c.requires.fit c.loop-j.j c.loop-j-test.false c.loop-j.invariant.2
+returns c = none-lost c.args.source.now c.args.sink.now c.args.delay.now (edges_of c.args.result_source.now c.args.result_sink.now c.args.result_delay.now) c.requires.fit (λ i below. c.loop-j.invariant.1 i (omega arith))

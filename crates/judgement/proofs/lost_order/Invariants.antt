@@ -2,15 +2,11 @@
 -- that entry is above it in a finished row.
 use mathlib.Core.Path.{◌≡◌}
 use mathlib.Core.Bool.{true}
-use Prim.Native.Nat.{ℕ, ◌+◌, ◌-◌, ◌≤◌, ◌<◌}
-use lib.ListN.{length}
+use Prim.Native.Nat.{ℕ, ◌+◌, ◌<◌}
 use Rattle.model.specs.Compute.{order_holds}
 use Rattle.records.specs.Columns.{held_edge, edges_of}
 use Rattle.delays.specs.Rows.{Known}
 use Rattle.judgement.proofs.lost_order.Given as goal
 
 abbrev pub invariant-loop-j : goal.invariant-loop-j
-invariant-loop-j l = (l.tasks + l.j ≤ length l.source) × Known l.tasks (edges_of l.result_source l.result_sink l.result_delay) l.done l.known × ((i : ℕ) → i < l.j → order_holds l.tasks (edges_of l.result_source l.result_sink l.result_delay) (held_edge l.source l.sink l.delay (l.tasks + i)) ≡ true)
-
-abbrev pub decreases-loop-j : goal.decreases-loop-j
-decreases-loop-j l = length l.source - (l.tasks + l.j)
+invariant-loop-j l = Known l.tasks (edges_of l.result_source l.result_sink l.result_delay) l.done l.known × ((i : ℕ) → i < l.j → order_holds l.tasks (edges_of l.result_source l.result_sink l.result_delay) (held_edge l.source l.sink l.delay (l.tasks + i)) ≡ true)

@@ -1,8 +1,7 @@
 -- `latest::latest_along` meets its contract: the numbers raised backwards say which start of each task is the latest, and the loop puts it in
 -- their place.
-use mathlib.Core.Path.{◌≡◌}
 use mathlib.Core.List.{List}
-use Prim.Native.Nat.{ℕ, ◌-◌, ◌≤◌}
+use Prim.Native.Nat.{ℕ, ◌≤◌}
 use lib.ListN.{length}
 use Rattle.model.specs.Tasks.{Edge}
 use Rattle.model.specs.Compute.{latency}
@@ -12,7 +11,6 @@ use Rattle.latest.proofs.Steps.{Sofar}
 use Rattle.latest.proofs.latest_along.Given as goal
 
 abbrev pub invariant-loop-v : goal.invariant-loop-v
-invariant-loop-v l = (l.v ≤ length l.time) × (length l.row ≡ length l.time) × ((es : List Edge) (sinks : List ℕ) → Worked es sinks l.sources l.time → latency (length l.time) es (at l.time) l.output ≤ l.bound → Sofar (length l.time) es (at l.time) l.output l.bound l.v l.row)
-
-abbrev pub decreases-loop-v : goal.decreases-loop-v
-decreases-loop-v l = length l.time - l.v
+invariant-loop-v l =
+    (es : List Edge) (sinks : List ℕ) → Worked es sinks l.sources l.time → latency (length l.time) es (at l.time) l.output ≤ l.bound →
+    Sofar (length l.time) es (at l.time) l.output l.bound l.v l.row

@@ -1,5 +1,5 @@
 -- `layout::graph_header` meets its contract: each field is read where the reader stands, and the readers stand one behind another.
-use Rattle.std.proofs.Common.{◌≡◌, ℕ, arith}
+use Rattle.std.proofs.Common.{◌≡◌, arith}
 use Rattle.layout.specs.Layout.{graph_header}
 use Rattle.layout.proofs.graph_header.Goals as goal
 

@@ -2,13 +2,10 @@
 -- the word, or to the next word.
 use mathlib.Core.Path.{◌≡◌}
 use mathlib.Core.Bool.{false}
-use Prim.Native.Nat.{ℕ, ◌+◌, ◌-◌, ◌*◌, ◌≤◌, ◌<◌}
+use Prim.Native.Nat.{ℕ, ◌+◌, ◌*◌, ◌≤◌, ◌<◌}
 use Rattle.marks.specs.Marks.{mark_at}
 use Rattle.marks.proofs.next_place.Given as goal
 
 abbrev pub invariant-loop-word : goal.invariant-loop-word
 invariant-loop-word l =
     (l.from < 64) × (l.after ≤ 64 * l.word + l.from) × ((i : ℕ) → l.after ≤ i → i < 64 * l.word + l.from → mark_at l.marks i ≡ false)
-
-abbrev pub decreases-loop-word : goal.decreases-loop-word
-decreases-loop-word l = 4 - l.word

@@ -5,8 +5,8 @@ use Rattle.marks.specs.Marks.{mark_at}
 use Rattle.marks.proofs.Listing.{Listed}
 use Rattle.marks.proofs.places_of.Given as goal
 
-abbrev pub invariant-loop-last : goal.invariant-loop-last
-invariant-loop-last l = (l.last ≤ 256) × Listed (mark_at l.marks) l.last l.list
+abbrev pub invariant-loop-place : goal.invariant-loop-place
+invariant-loop-place l = (l.last ≤ 256) × Listed (mark_at l.marks) l.last l.list
 
-abbrev pub decreases-loop-last : goal.decreases-loop-last
-decreases-loop-last l = 256 - l.last
+abbrev pub decreases-loop-place : goal.decreases-loop-place
+decreases-loop-place l = 256 - l.last

@@ -1,11 +1,7 @@
 -- `passes::pass_along` meets its contract: after k tasks of the sequence the edges out of them are kept.
-use Prim.Native.Nat.{◌-◌, ◌≤◌, ◌<◌}
-use lib.ListN.{length}
+use Prim.Native.Nat.{◌<◌}
 use Rattle.passes.proofs.Passing.{Passing}
 use Rattle.passes.proofs.pass_along.Given as goal
 
 abbrev pub invariant-loop-k : goal.invariant-loop-k
-invariant-loop-k l = (l.k ≤ length l.initial.row) × Passing l.words l.sequence l.time (λ i. i < l.k) l.initial.row l.row
-
-abbrev pub decreases-loop-k : goal.decreases-loop-k
-decreases-loop-k l = length l.initial.row - l.k
+invariant-loop-k l = Passing l.words l.sequence l.time (λ i. i < l.k) l.initial.row l.row

@@ -5,7 +5,4 @@ use Rattle.passes.proofs.Passing.{Passing}
 use Rattle.passes.proofs.pass_back.Given as goal
 
 abbrev pub invariant-loop-k : goal.invariant-loop-k
-invariant-loop-k l = (l.k ≤ length l.initial.row) × Passing l.words l.sequence l.time (λ i. (l.k ≤ i) × (i < length l.initial.row)) l.initial.row l.row
-
-abbrev pub decreases-loop-k : goal.decreases-loop-k
-decreases-loop-k l = l.k
+invariant-loop-k l = Passing l.words l.sequence l.time (λ i. (l.k ≤ i) × (i < length l.initial.row)) l.initial.row l.row

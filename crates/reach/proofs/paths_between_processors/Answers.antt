@@ -6,9 +6,6 @@ use Rattle.reach.proofs.Rounds.{through-fewer}
 use Rattle.reach.proofs.Processors.{ends_held, reaches-on}
 use Rattle.reach.proofs.paths_between_processors.Goals as goal
 
-pub processors_used-used-requires : goal.processors_used-used-requires
-processors_used-used-requires c = c.requires.by_index_2
-
 pub returns : goal.returns
 returns c =
     let source = c.args.source.now in

@@ -1,48 +1,29 @@
--- `reach::processors_used` meets its contract: after v steps the number held is at most 15, and no processor of the first v tasks is above it.
-use mathlib.Core.Path.{◌≡◌, sym, subst}
-use mathlib.Core.Logic.{◌⊎◌, inl, inr}
+-- `reach::processors_used` meets its contract: the greatest of the processors is one of them, so below 16, and none is above it.
+use mathlib.Core.Path.{◌≡◌}
 use mathlib.Core.List.{List}
-use Prim.Native.Nat.{ℕ, suc, ◌+◌, ◌≤◌, ◌<◌, max}
+use Prim.Native.Nat.{ℕ, ◌+◌, ◌≤◌, ◌<◌}
 use native.Mathlib.Omega.{arith}
-use Rattle.model.proofs.Basics.{below_suc}
+use borrow.Author.Rules.{rules}
+use lib.ListN.{length, get_or}
+use Rattle.std.proofs.Common.{Option, None, Some, MatchOption, unwrap_or}
 use Rattle.records.specs.Columns.{at}
 use Rattle.reach.proofs.processors_used.Goals as goal
 
--- one task more
-more :
-    (processor : List ℕ) (highest next v : ℕ) → next ≡ max highest (at processor v) → ((u : ℕ) → u < v → at processor u ≤ highest) → (u : ℕ) → u < v + 1
-    → at processor u ≤ next
-more processor highest next v is below u l = let m : u < suc v = omega arith in go (below_suc m)
-  where
-    go : (u < v) ⊎ (u ≡ v) → at processor u ≤ next
-    go (inl k) = omega (arith, is, below u k)
-    go (inr q) = subst (λ (w : ℕ). at processor w ≤ next) (sym q) (omega (arith, is))
+-- the greatest of the processors, if there is one
+abbrev Greatest : List ℕ → Option ℕ → Type 0
+Greatest processor greatest =
+    MatchOption greatest (length processor ≡ 0) (λ m. (k : ℕ) × (k < length processor) × (m ≡ get_or processor k 0) × ((v : ℕ) → v < length processor → get_or processor v 0 ≤ m))
 
-pub loop-v-init : goal.loop-v-init
-loop-v-init c = (omega arith, omega arith, λ u l. absurd (omega arith))
-
-pub greater-highest-requires : goal.greater-highest-requires
-greater-highest-requires c = tt
-
-pub loop-v-preserved : goal.loop-v-preserved
+above :
+    (processor : List ℕ) (greatest : Option ℕ) → Greatest processor greatest → ((v : ℕ) → v < length processor → at processor v < 16)
+    → (unwrap_or greatest 0 + 1 ≤ 16) × ((v : ℕ) → v < length processor → at processor v < unwrap_or greatest 0 + 1)
 unfolding at
-loop-v-preserved c =
-    let processor = c.args.processor.now in
-    let v = c.loop-v.v in
-    let low : at processor v < 16 = c.requires v c.loop-v-test.true in
-    let is : c.greater-highest.result ≡ max c.loop-v.highest (at processor v) = c.greater-highest.ensures in (
-      omega arith,
-      omega (arith, low, is, c.loop-v.invariant.1),
-      more processor c.loop-v.highest c.greater-highest.result v is c.loop-v.invariant.2,
-    )
-
-pub overflow_cast-result : goal.overflow_cast-result
-overflow_cast-result c = omega (arith, c.loop-v.invariant.1)
-
-pub overflow_add-result : goal.overflow_add-result
-overflow_add-result c = omega (arith, c.loop-v.invariant.1)
+above processor None empty few = (omega arith, λ v l. absurd (omega arith))
+above processor (Some m) is few = (omega (arith, few is.0 is.1), λ v l. omega (arith, is.3 v l))
 
 pub returns : goal.returns
 returns c =
-    let held = c.loop-v.invariant in
-    (omega (arith, held.1), λ v l. let low = held.2 v (omega arith) in omega (arith, low))
+    let processor = c.args.processor.now in
+    let is : Greatest processor c.max.result = search rules in
+    let held = above processor c.max.result is c.requires in
+    rw c.unwrap_or-highest.ensures held

@@ -1,16 +1,10 @@
 -- `records::find_next` meets its contract: what the lists say of the tasks from v on is carried to the task before (`firsts_more`, `nexts-more`).
-use Prim.Native.Nat.{◌≤◌}
-use lib.ListN.{length}
 use Rattle.records.specs.Nexts.{FirstTasks, NextTasks}
 use Rattle.records.proofs.Nexts.{Told}
 use Rattle.records.proofs.find_next.Given as goal
 
 abbrev pub invariant-loop-v : goal.invariant-loop-v
 invariant-loop-v l =
-    (l.v ≤ length l.processor) ×
     NextTasks l.processor l.v l.next ×
     FirstTasks l.processor l.v l.first ×
     Told l.processor l.first
-
-abbrev pub decreases-loop-v : goal.decreases-loop-v
-decreases-loop-v l = l.v

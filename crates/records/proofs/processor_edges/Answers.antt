@@ -53,22 +53,7 @@ find_next-requires c = record { processor_len_bound = (c.requires.processor_len_
 pub loop-v-init : goal.loop-v-init
 loop-v-init c =
     let asked = c.requires in
-    (omega arith, none (λ e. e.source) asked.source_len, none (λ e. e.delay) asked.delay_len)
-
-pub overflow_cast-source : goal.overflow_cast-source
-overflow_cast-source c = omega (arith, c.requires.processor_len_bound)
-
-pub bounds-source-v : goal.bounds-source-v
-bounds-source-v c = omega (arith, c.loop-v.invariant.1.room)
-
-pub bounds-sink-v : goal.bounds-sink-v
-bounds-sink-v c = omega (arith, c.find_next.ensures.next_tasks.room)
-
-pub bounds-delay-v : goal.bounds-delay-v
-bounds-delay-v c = omega (arith, c.loop-v.invariant.2.room)
-
-pub overflow_add-v : goal.overflow_add-v
-overflow_add-v c = omega (arith, c.requires.processor_len_bound)
+    (none (λ e. e.source) asked.source_len, none (λ e. e.delay) asked.delay_len)
 
 pub loop-v-preserved : goal.loop-v-preserved
 loop-v-preserved c =
@@ -76,28 +61,12 @@ loop-v-preserved c =
     let below = c.loop-v-test.true in
     let found = c.find_next.ensures in
     let few = c.requires.processor_len_bound in (
-      omega arith,
-      more (λ e. e.source) loop.invariant.1 below (found-source few found.next_tasks found.first_tasks loop.v below (small (goal.at.loop-v-preserved c).After-find_next loop.v)),
-      more (λ e. e.delay) loop.invariant.2 below (found-delay few found.next_tasks found.first_tasks loop.v below (small (goal.at.loop-v-preserved c).After-find_next loop.v)),
+      more (λ e. e.source) loop.invariant.0 below (found-source few found.next_tasks found.first_tasks loop.v below (small (goal.at.loop-v-preserved c).After-find_next loop.v)),
+      more (λ e. e.delay) loop.invariant.1 below (found-delay few found.next_tasks found.first_tasks loop.v below (small (goal.at.loop-v-preserved c).After-find_next loop.v)),
     )
 
 pub loop-w-init : goal.loop-w-init
-loop-w-init c = (omega arith, record { done = none (λ e. e.sink) c.find_next.ensures.next_tasks.room; rest = λ u l. refl })
-
-pub bounds-sink-w : goal.bounds-sink-w
-bounds-sink-w c = omega (arith, c.loop-w.invariant.1.done.room)
-
-pub overflow_cast-sink : goal.overflow_cast-sink
-overflow_cast-sink c = omega (arith, c.type_inv.processor c.loop-w.w)
-
-pub bounds-first-processor : goal.bounds-first-processor
-bounds-first-processor c = omega (arith, c.type_inv.processor c.loop-w.w, c.find_next.ensures.first_tasks.room)
-
-pub bounds-sink-w-then-sink-w-ge-NO_TASK : goal.bounds-sink-w-then-sink-w-ge-NO_TASK
-bounds-sink-w-then-sink-w-ge-NO_TASK c = omega (arith, c.loop-w.invariant.1.done.room)
-
-pub overflow_add-w : goal.overflow_add-w
-overflow_add-w c = omega (arith, c.requires.processor_len_bound)
+loop-w-init c = record { done = none (λ e. e.sink) c.find_next.ensures.next_tasks.room; rest = λ u l. refl }
 
 pub loop-w-preserved : goal.loop-w-preserved
 loop-w-preserved c =
@@ -106,33 +75,22 @@ loop-w-preserved c =
     let found = c.find_next.ensures in
     let few = c.requires.processor_len_bound in
     let own = small (goal.at.loop-w-preserved c).After-find_next loop.w in
-    let is = loop.invariant.1.rest loop.w (omega arith) in
-    let Next : List ℕ → Type 0 = λ xs. Sinks c.args.processor.now c.find_next.new.next (loop.w + 1) xs in (
-      omega arith,
-      elim c.if-sink-w-ge-NO_TASK.branch [
-        | then-sink-w-ge-NO_TASK way ↦
-            subst Next (sym way.sink-is)
-            (put loop.invariant.1 below (λ ts of. first-sink few found.next_tasks found.first_tasks loop.w below own ts of (omega (arith, is, way.if-sink-w-ge-NO_TASK.true))))
-        | else-sink-w-ge-NO_TASK way ↦
-            subst Next (sym way.sink-is)
-            (keep loop.invariant.1 below (λ ts of. is ∙ next-sink few found.next_tasks found.first_tasks loop.w below own ts of (omega (arith, is, way.if-sink-w-ge-NO_TASK.false))))
-      ],
-    )
-
-pub shape_of-source : goal.shape_of-source
-shape_of-source c = c.loop-v.invariant.1.room ∙ sym c.requires.source_len
-
-pub shape_of-sink : goal.shape_of-sink
-shape_of-sink c = c.loop-w.invariant.1.done.room ∙ sym c.requires.sink_len
-
-pub shape_of-delay : goal.shape_of-delay
-shape_of-delay c = c.loop-v.invariant.2.room ∙ sym c.requires.delay_len
+    let is = loop.invariant.rest loop.w (omega arith) in
+    let Next : List ℕ → Type 0 = λ xs. Sinks c.args.processor.now c.find_next.new.next (loop.w + 1) xs in
+    elim c.if-sink-w-ge-NO_TASK.branch [
+      | then-sink-w-ge-NO_TASK way ↦
+          subst Next (sym way.sink-is)
+          (put loop.invariant below (λ ts of. first-sink few found.next_tasks found.first_tasks loop.w below own ts of (omega (arith, is, way.if-sink-w-ge-NO_TASK.true))))
+      | else-sink-w-ge-NO_TASK way ↦
+          subst Next (sym way.sink-is)
+          (keep loop.invariant below (λ ts of. is ∙ next-sink few found.next_tasks found.first_tasks loop.w below own ts of (omega (arith, is, way.if-sink-w-ge-NO_TASK.false))))
+    ]
 
 pub returns : goal.returns
 returns c =
     let first = c.loop-v in
     let second = c.loop-w in
     let n = length c.args.processor.now in
-    let edges : first.v ≡ n = omega (arith, first.invariant.0, c.loop-v-test.false) in
+    let edges : first.v ≡ n = omega (arith, c.loop-v-test.false) in
     let sinks : second.w ≡ n = omega arith in
-    record { source_after = all (λ e. e.source) first.invariant.1 edges; sink_after = all (λ e. e.sink) second.invariant.1.done sinks; delay_after = all (λ e. e.delay) first.invariant.2 edges }
+    record { source_after = all (λ e. e.source) first.invariant.0 edges; sink_after = all (λ e. e.sink) second.invariant.done sinks; delay_after = all (λ e. e.delay) first.invariant.1 edges }

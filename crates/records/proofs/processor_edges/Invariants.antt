@@ -2,7 +2,7 @@
 -- of the second the first w sinks, while the others are next tasks as they were found.
 use mathlib.Core.Path.{◌≡◌}
 use mathlib.Core.List.{List}
-use Prim.Native.Nat.{ℕ, ◌-◌, ◌≤◌}
+use Prim.Native.Nat.{ℕ, ◌≤◌}
 use lib.ListN.{length, get_or}
 use Rattle.model.specs.Tasks.{Task, Edge}
 use Rattle.model.specs.Processors.{processor_edge}
@@ -22,17 +22,8 @@ pub record Sinks (processor next : List ℕ) (w : ℕ) (xs : List ℕ) : Type 0 
 
 abbrev pub invariant-loop-v : goal.invariant-loop-v
 invariant-loop-v l =
-    (l.v ≤ length l.processor) ×
     Holds (λ e. e.source) l.processor l.v l.source ×
     Holds (λ e. e.delay) l.processor l.v l.delay
 
-abbrev pub decreases-loop-v : goal.decreases-loop-v
-decreases-loop-v l = length l.processor - l.v
-
 abbrev pub invariant-loop-w : goal.invariant-loop-w
-invariant-loop-w l =
-    (l.w ≤ length l.processor) ×
-    Sinks l.processor l.initial.sink l.w l.sink
-
-abbrev pub decreases-loop-w : goal.decreases-loop-w
-decreases-loop-w l = length l.processor - l.w
+invariant-loop-w l = Sinks l.processor l.initial.sink l.w l.sink

@@ -1,5 +1,4 @@
 -- `records::read_edges` meets its contract: after j steps the first j elements of the three lists are those of the first j edges.
-use Prim.Native.Nat.{◌-◌, ◌≤◌}
 use lib.ListN.{length}
 use Rattle.layout.specs.Layout.{record_start, edge_at}
 use Rattle.records.proofs.Fill.{Filled}
@@ -7,10 +6,6 @@ use Rattle.records.proofs.read_edges.Given as goal
 
 abbrev pub invariant-loop-j : goal.invariant-loop-j
 invariant-loop-j l =
-    (l.j ≤ length l.initial.source) ×
     Filled (λ i. (edge_at l.bytes (record_start l.position i)).source) (length l.initial.source) l.j l.source ×
     Filled (λ i. (edge_at l.bytes (record_start l.position i)).sink) (length l.initial.source) l.j l.sink ×
     Filled (λ i. (edge_at l.bytes (record_start l.position i)).delay) (length l.initial.source) l.j l.delay
-
-abbrev pub decreases-loop-j : goal.decreases-loop-j
-decreases-loop-j l = length l.initial.source - l.j

@@ -1,5 +1,4 @@
 -- `records::read_tasks` meets its contract: after v steps the first v elements of both lists are those of the first v tasks.
-use Prim.Native.Nat.{◌-◌, ◌≤◌}
 use lib.ListN.{length}
 use Rattle.layout.specs.Layout.{graph_header_bits, record_start, task_at}
 use Rattle.records.proofs.Fill.{Filled}
@@ -7,9 +6,5 @@ use Rattle.records.proofs.read_tasks.Given as goal
 
 abbrev pub invariant-loop-v : goal.invariant-loop-v
 invariant-loop-v l =
-    (l.v ≤ length l.initial.processor) ×
     Filled (λ u. (task_at l.bytes (record_start graph_header_bits u)).processor) (length l.initial.processor) l.v l.processor ×
     Filled (λ u. (task_at l.bytes (record_start graph_header_bits u)).time) (length l.initial.processor) l.v l.time
-
-abbrev pub decreases-loop-v : goal.decreases-loop-v
-decreases-loop-v l = length l.initial.processor - l.v

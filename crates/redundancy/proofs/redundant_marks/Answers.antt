@@ -1,14 +1,16 @@
--- `redundancy::redundant_marks` meets its contract: the last steps are taken into a square with room for 64 tasks, then four words of 64 marks each are made
--- by it.
-use mathlib.Core.Path.{refl, sym, ◌∙◌}
-use mathlib.Core.List.{[], ◌∷◌}
+-- `redundancy::redundant_marks` meets its contract: the last steps are taken into a square with room for 64 tasks; after i edges the words have their marks.
+use mathlib.Core.Path.{◌≡◌, refl, sym, ◌∙◌, subst}
+use mathlib.Core.Bool.{Bool}
+use Prim.Native.Nat.{ℕ, ◌+◌, ◌<◌}
+use mathlib.Core.List.{List}
 use native.Mathlib.Omega.{arith}
 use Rattle.delays.proofs.Steps.{fit_wide}
-use Rattle.marks.specs.Marks.{word_of, marks_of}
-use Rattle.redundancy.specs.Redundancy.{Tabled}
-use Rattle.redundancy.proofs.Rule.{fit-turned}
+use Rattle.records.specs.Columns.{edges_of}
+use Rattle.redundancy.specs.Redundancy.{redundant_in, Tabled}
+use Rattle.redundancy.proofs.Rule.{fit-turned, past_end}
+use Rattle.redundancy.proofs.Words.{MarkedWords, marked-none, mark-left, mark-set, all-marked}
 use Rattle.redundancy.proofs.redundant_marks.Goals as goal
-use Rattle.redundancy.proofs.redundant_marks.Goals.{After-take_steps}
+use Rattle.redundancy.proofs.redundant_marks.Goals.{After-take_steps, then-is_redundant, else-is_redundant}
 
 -- with the last steps taken into the square
 tabled : (c : After-take_steps) →
@@ -30,24 +32,19 @@ pub take_steps-requires : goal.take_steps-requires
 take_steps-requires c =
     let sinks = c.requires.sink_len.0 in record { sink_len = (sym sinks, c.requires.sink_len.1 ∙ sym sinks); fit = fit_wide c.requires.tasks_bound.0 (fit-turned c.args.source.now c.args.sink.now c.args.delay.now sinks c.requires.fit); square_value = refl }
 
-pub mark_word-first-requires : goal.mark_word-first-requires
-mark_word-first-requires c = record { first_bound = omega arith; tabled = tabled (goal.at.mark_word-first-requires c).After-take_steps }
+pub loop-i-init : goal.loop-i-init
+loop-i-init c = marked-none (redundant_in c.args.tasks (edges_of c.args.source.now c.args.sink.now c.args.delay.now))
 
-pub mark_word-second-requires : goal.mark_word-second-requires
-mark_word-second-requires c = record { first_bound = omega arith; tabled = tabled (goal.at.mark_word-second-requires c).After-take_steps }
-
-pub mark_word-third-requires : goal.mark_word-third-requires
-mark_word-third-requires c = record { first_bound = omega arith; tabled = tabled (goal.at.mark_word-third-requires c).After-take_steps }
-
-pub mark_word-fourth-requires : goal.mark_word-fourth-requires
-mark_word-fourth-requires c = record { first_bound = omega arith; tabled = tabled (goal.at.mark_word-fourth-requires c).After-take_steps }
+pub loop-i-preserved : goal.loop-i-preserved
+loop-i-preserved c =
+    let test : ℕ → Bool = redundant_in c.args.tasks (edges_of c.args.source.now c.args.sink.now c.args.delay.now) in
+    let few : c.loop-i.i < 256 = omega (arith, c.loop-i-test.true, c.min-edges.ensures) in
+    let Next : List ℕ → Type 0 = λ words. MarkedWords test (c.loop-i.i + 1) words in
+    let told : c.is_redundant.result ≡ test c.loop-i.i = c.is_redundant.ensures c.loop-i.i refl in
+    elim c.if-is_redundant.branch [
+      | then-is_redundant w ↦ subst Next (sym w.words-is) (mark-set few c.loop-i.invariant (sym told ∙ w.if-is_redundant.true))
+      | else-is_redundant w ↦ subst Next (sym w.words-is) (mark-left few c.loop-i.invariant (sym told ∙ w.if-is_redundant.false))
+    ]
 
 pub returns : goal.returns
-unfolding word_of marks_of
-returns c = λ x. record {
-  words = c.mark_word-first.ensures x
-      ∷ c.mark_word-second.ensures x
-      ∷ c.mark_word-third.ensures x
-      ∷ c.mark_word-fourth.ensures x
-      ∷ [];
-}
+returns c = λ x. record { words = all-marked c.loop-i.invariant (λ k l h. past_end c.args.tasks c.args.source.now c.args.sink.now c.args.delay.now k (omega (arith, c.loop-i-test.false, c.min-edges.ensures, c.saturating_sub.ensures))) x }

@@ -17,10 +17,7 @@ pub loop-j-init : goal.loop-j-init
 unfolding tabulate keep
 loop-j-init c =
     let rooms = c.requires.to_source_len in
-    (omega arith, omega arith, held_none rooms.0 rooms.1 rooms.2)
-
-pub bounds-sink-j : goal.bounds-sink-j
-bounds-sink-j c = omega (arith, c.requires.sink_len)
+    (omega arith, held_none rooms.0 rooms.1 rooms.2)
 
 pub processor_of-from-requires : goal.processor_of-from-requires
 unfolding held_edge
@@ -42,13 +39,9 @@ processor_of-to-requires c =
     let ends = c.requires.fit.ends (held_edge source sink delay j) (edge_in_lem source sink delay j c.loop-j-test.true) in
     ends.0
 
-pub bounds-delay-j : goal.bounds-delay-j
-bounds-delay-j c =
-    omega (arith, c.requires.sink_len)
-
 pub store-requires : goal.store-requires
 store-requires c =
-    let held = c.loop-j.invariant.2 in
+    let held = c.loop-j.invariant.1 in
     let few = c.requires.source_len_bound.0 in
     (omega (arith, few, held.sources.room), omega (arith, few, held.sinks.room), omega (arith, few, held.delays.room))
 
@@ -66,7 +59,7 @@ leads_to-requires c =
 
 pub overflow_add-kept : goal.overflow_add-kept
 overflow_add-kept c =
-    omega (arith, c.requires.source_len_bound.0, c.loop-j.invariant.1, c.one_if-kept.ensures, counted-one c.leads_to.result)
+    omega (arith, c.requires.source_len_bound.0, c.loop-j.invariant.0, c.from-kept.ensures, counted-one c.leads_to.result)
 
 pub loop-j-preserved : goal.loop-j-preserved
 unfolding held_edge on_cycle
@@ -83,23 +76,10 @@ loop-j-preserved c =
     c.leads_to.ensures ∙
     ((λ i. bit (get_or c.args.words.now (c.processor_of-from.ensures i) 0) (c.processor_of-to.ensures i)) ∙ c.requires.reaches_on.paths (get_or sink j 0) (get_or source j 0) ends.1 ends.0) in
     let stored = c.store.ensures in (
-      omega arith,
-      omega (arith, inv.1, c.one_if-kept.ensures, counted-one c.leads_to.result),
-      held_same (kept_more t (tabulate j f) (f j) c.leads_to.result (sym said) c.one_if-kept.ensures inv.2 (omega (arith, c.requires.source_len_bound.0, inv.0, inv.1))) (ap (keep t) (tabulate-more f j)) refl
+      omega (arith, inv.0, c.from-kept.ensures, counted-one c.leads_to.result),
+      held_same (kept_more t (tabulate j f) (f j) c.leads_to.result (sym said) c.from-kept.ensures inv.1 (omega (arith, c.requires.source_len_bound.0, inv.0))) (ap (keep t) (tabulate-more f j)) refl
           stored.to_source_after stored.to_sink_after stored.to_delay_after,
     )
-
-pub shape_of-to_source : goal.shape_of-to_source
-shape_of-to_source c =
-    c.loop-j.invariant.2.sources.room ∙ sym c.requires.to_source_len.0
-
-pub shape_of-to_sink : goal.shape_of-to_sink
-shape_of-to_sink c =
-    c.loop-j.invariant.2.sinks.room ∙ sym c.requires.to_source_len.1
-
-pub shape_of-to_delay : goal.shape_of-to_delay
-shape_of-to_delay c =
-    c.loop-j.invariant.2.delays.room ∙ sym c.requires.to_source_len.2
 
 pub returns : goal.returns
 unfolding cyclic edges_of
@@ -109,4 +89,4 @@ returns c =
     let delay = c.args.delay.now in
     let t = on_cycle (length c.args.processor.now) (edges_of source sink delay) in
     let inv = c.loop-j.invariant in
-    let whole : length source ≡ c.loop-j.j = omega arith in record { upper_bound = omega (arith, c.requires.source_len_bound.0, inv.0, inv.1); held_front = held_same inv.2 (ap (λ (n : ℕ). keep t (tabulate n (held_edge source sink delay))) whole) refl refl refl refl }
+    let whole : length source ≡ c.loop-j.j = omega arith in record { upper_bound = omega (arith, c.requires.source_len_bound.0, inv.0); held_front = held_same inv.1 (ap (λ (n : ℕ). keep t (tabulate n (held_edge source sink delay))) whole) refl refl refl refl }

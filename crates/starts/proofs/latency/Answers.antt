@@ -1,44 +1,63 @@
 -- `starts::latency` meets its contract: the first turn's starts are the earliest.
-use mathlib.Core.Path.{sym, ap, ◌∙◌, subst}
-use Prim.Native.Nat.{ℕ, ◌+◌, ◌≤◌, ◌<◌}
+use mathlib.Core.Path.{◌≡◌, refl, sym, ap, ◌∙◌, subst}
+use mathlib.Core.List.{List}
+use Prim.Native.Nat.{ℕ, ◌+◌, ◌-◌, ◌≤◌, ◌<◌}
 use native.Mathlib.Omega.{arith}
-use mir.Facts.{Fits-widen}
-use Rattle.model.specs.Tasks.{Ends}
+use lib.ListN.{length, take, replicate}
+use Rattle.model.specs.Tasks.{Edge, Ends}
 use Rattle.model.specs.Compute.{zero_cycle}
-use Rattle.records.specs.Columns.{edges_of, zeros, at}
+use Rattle.records.specs.Columns.{edges_of, at}
+use Rattle.turn.specs.Turn.{Turned}
 use Rattle.starts.proofs.Limits.{end-as-u32}
 use Rattle.starts.proofs.First.{turn-sized, front-start, turn-latency}
 use Rattle.starts.proofs.Fronts.{front_length, front_at}
 use Rattle.starts.proofs.latency.Goals as goal
+use Rattle.starts.proofs.latency.Goals.{Start, After-first_turn}
+
+abbrev edges : Start → List Edge
+edges s = edges_of s.args.source.now s.args.sink.now s.args.delay.now
+
+-- the part that the turn is put into: a start of 0 for each task
+abbrev blank : Start → List ℕ
+blank s = take (length s.args.time.now - 0) (replicate 64 0)
+
+blank-long : (s : Start) → length (blank s) ≡ length s.args.time.now
+blank-long s = front_length 64 0 refl s.requires.time_len_bound.0
+
+abbrev begin : After-first_turn → Start
+begin t = (goal.at.After-first_turn t).Start
+
+turned : (t : After-first_turn) →
+    let s = begin t in
+    Turned (length s.args.time.now) (edges s) (at s.args.time.now) s.args.output t.first_turn.result.reached (blank s) t.first_turn.new.row
+turned t =
+    let s = begin t in
+    turn-sized (blank-long s) (t.first_turn.ensures.turned (t.first_turn.ensures.cyclic ∙ (ap (λ (m : ℕ). zero_cycle m (edges s)) (blank-long s) ∙ s.requires.delay_value)))
+
+row-long : (t : After-first_turn) → length t.first_turn.new.row ≡ length (begin t).args.time.now
+row-long t = t.first_turn.ensures.size ∙ blank-long (begin t)
 
 pub first_turn-requires : goal.first_turn-requires
-unfolding zeros at
 first_turn-requires c =
-    let es = edges_of c.args.source.now c.args.sink.now c.args.delay.now in
-    let same = sym (front_length 64 0 c.no_starts-starts.ensures c.requires.time_len_bound.0) in
+    let s = (goal.at.first_turn-requires c).Start in
+    let same = sym (blank-long s) in
     record {
       sink_len = c.requires.sink_len;
       time_len = (same, subst (λ (m : ℕ). m ≤ 64) same c.requires.time_len_bound.0, subst (λ (m : ℕ). c.args.output < m) same c.requires.time_len_bound.1);
-      ends = subst (λ (m : ℕ). Ends m es) same c.requires.ends;
-      by_index = λ v l. front_at 64 0 c.no_starts-starts.ensures c.requires.time_len_bound.0 v (subst (λ (m : ℕ). v < m) (sym same) l);
+      ends = subst (λ (m : ℕ). Ends m (edges s)) same c.requires.ends;
+      by_index = λ v l. front_at 64 0 refl c.requires.time_len_bound.0 v (subst (λ (m : ℕ). v < m) (sym same) l);
     }
 
-pub overflow_cast-result : goal.overflow_cast-result
-overflow_cast-result c = Fits-widen tt (c.type_inv.time _)
-
 pub overflow_add-result : goal.overflow_add-result
-unfolding zeros at
+unfolding at
 overflow_add-result c =
-    let turned = turn-sized (front_length 64 0 c.no_starts-starts.ensures c.requires.time_len_bound.0) (c.first_turn.ensures.turned (c.first_turn.ensures.cyclic ∙ (ap (λ (m : ℕ). zero_cycle m (edges_of c.args.source.now c.args.sink.now c.args.delay.now)) (front_length 64 0 c.no_starts-starts.ensures c.requires.time_len_bound.0) ∙ c.requires.delay_value))) in
-    let low = turned.low c.args.output c.requires.time_len_bound.1 in
-    end-as-u32
-    (subst (λ (x : ℕ). x ≤ 268435456) (sym (front-start c.first_turn.new.row _ (c.first_turn.ensures.size ∙ front_length 64 0 c.no_starts-starts.ensures c.requires.time_len_bound.0) c.args.output c.requires.time_len_bound.1)) (omega (arith, low, c.requires.time_len_bound.0)))
-    (c.type_inv.time _)
+    let t = (goal.at.overflow_add-result c).After-first_turn in
+    let low = (turned t).low c.args.output c.requires.time_len_bound.1 in
+    end-as-u32 (subst (λ (x : ℕ). x ≤ 268435456) (sym (front-start c.first_turn.new.row _ (row-long t) c.args.output c.requires.time_len_bound.1)) (omega (arith, low, c.requires.time_len_bound.0))) (c.type_inv.time _)
 
 pub returns : goal.returns
-unfolding zeros at
+unfolding at
 returns c =
-    let turned = turn-sized (front_length 64 0 c.no_starts-starts.ensures c.requires.time_len_bound.0) (c.first_turn.ensures.turned (c.first_turn.ensures.cyclic ∙ (ap (λ (m : ℕ). zero_cycle m (edges_of c.args.source.now c.args.sink.now c.args.delay.now)) (front_length 64 0 c.no_starts-starts.ensures c.requires.time_len_bound.0) ∙ c.requires.delay_value))) in
-    let time = at c.args.time.now in
-    ap (λ (x : ℕ). x + time c.args.output) (front-start c.first_turn.new.row _ (c.first_turn.ensures.size ∙ front_length 64 0 c.no_starts-starts.ensures c.requires.time_len_bound.0) c.args.output c.requires.time_len_bound.1) ∙
-    turn-latency c.requires.ends c.requires.delay_value (λ v l. (c.requires.file_times v l).0) turned (front_at 64 0 c.no_starts-starts.ensures c.requires.time_len_bound.0) c.args.output c.requires.time_len_bound.1
+    let t = (goal.at.returns c).After-first_turn in
+    ap (λ (x : ℕ). x + at c.args.time.now c.args.output) (front-start c.first_turn.new.row _ (row-long t) c.args.output c.requires.time_len_bound.1) ∙
+    turn-latency c.requires.ends c.requires.delay_value (λ v l. (c.requires.file_times v l).0) (turned t) (front_at 64 0 refl c.requires.time_len_bound.0) c.args.output c.requires.time_len_bound.1

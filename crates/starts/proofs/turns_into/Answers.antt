@@ -2,7 +2,7 @@
 -- what is gathered from the turns before it.
 use mathlib.Core.Path.{◌≡◌, refl, sym, subst, ◌∙◌}
 use mathlib.Core.List.{List}
-use Prim.Native.Nat.{ℕ, suc, ◌+◌, ◌-◌, ◌≤◌, ◌<◌}
+use Prim.Native.Nat.{ℕ, suc, ◌+◌, ◌-◌, ◌*◌, ◌≤◌, ◌<◌}
 use native.Mathlib.Omega.{arith}
 use lib.ListN.{length, get_or}
 use borrow.Rule.Slice.PartMut.{mid_of}
@@ -13,7 +13,7 @@ use Rattle.waits.specs.Later.{LaterEdges, Awaited}
 use Rattle.starts.specs.Starts.{turn_row}
 use Rattle.starts.specs.declared.TaskOrder.{TaskOrder}
 use Rattle.starts.proofs.Turns.{TurnGraph}
-use Rattle.starts.proofs.Filling.{part_length, turns_so_far, so-far-small, Room, turns-none, filled-room, filled-front, filled_more, filled-all}
+use Rattle.starts.proofs.Filling.{part_length, turns_so_far, so-far-small, Room, turns-none, next-room, filled-front, filled_more, filled-all}
 use Rattle.starts.proofs.Later.{lent, front-size, front-entry, entry-back, awaited-lent, turn-passable, turn-row}
 use Rattle.starts.proofs.turns_into.Goals as goal
 use Rattle.starts.proofs.turns_into.Goals.{Start, In-loop-done, After-gather_ends, After-make_turn}
@@ -38,7 +38,7 @@ abbrev width : In-loop-done → ℕ
 width i = length (begin i).args.time.now
 
 abbrev place : In-loop-done → ℕ
-place i = i.loop-done.at
+place i = i.loop-done.done * width i
 
 abbrev done : In-loop-done → ℕ
 done i = i.loop-done.done
@@ -75,13 +75,13 @@ rooms i =
     (i.later_edges-late.ensures.few, kept.back, kept.lasting, kept.to_sink)
 
 -- and for the turn's row
-room : (i : In-loop-done) → Room (width i) (place i) i.loop-done.starts
+room : (i : In-loop-done) → Room (width i) (done i) (length i.loop-done.starts)
 room i =
     let few = (begin i).requires.time_len_bound in
-    filled-room i.loop-done.invariant.0 (more i) few.0 few.1 few.2
+    next-room (more i) few.0 few.1 (omega (arith, few.2, i.loop-done.invariant.filled.starts-long))
 
 row-wide : (i : In-loop-done) → length (mid_of (place i) (place i + width i - place i) i.loop-done.starts) ≡ width i
-row-wide i = part_length (place i) (width i) i.loop-done.starts (room i).starts-to
+row-wide i = part_length (place i) (width i) i.loop-done.starts (room i).within
 
 -- the sinks that are lent are tasks
 sinks-inside : (i : In-loop-done) → (k : ℕ) → k < length (lent (count i) (backs i)) → get_or (lent (count i) (late-sinks i)) k 0 < width i
@@ -99,7 +99,7 @@ abbrev start : After-gather_ends → List ℕ
 start t = t.gather_ends.new.row
 
 start-room : (t : After-gather_ends) → length (start t) ≡ 64
-start-room t = t.gather_ends.ensures.size ∙ (in-turn t).loop-done.invariant.1
+start-room t = t.gather_ends.ensures.size ∙ (in-turn t).loop-done.invariant.awaited-long
 
 gathered : (t : After-gather_ends) →
     let i = in-turn t in
@@ -111,8 +111,8 @@ gathered t =
     let lasting = lent (count i) (lastings i) in
     let sinks = lent (count i) (late-sinks i) in
     awaited-lent
-    (subst (λ (xs : List ℕ). Awaited back lasting sinks xs (length i.loop-done.awaited) (length back) (start t)) (filled-front i.loop-done.invariant.0) t.gather_ends.ensures)
-    (omega (arith, i.loop-done.invariant.1, (begin i).requires.time_len_bound.0)) (λ k l. sinks-inside i k l)
+    (subst (λ (xs : List ℕ). Awaited back lasting sinks xs (length i.loop-done.awaited) (length back) (start t)) (filled-front i.loop-done.invariant.filled) t.gather_ends.ensures)
+    (omega (arith, i.loop-done.invariant.awaited-long, (begin i).requires.time_len_bound.0)) (λ k l. sinks-inside i k l)
 
 -- ── After the turn is made ──
 
@@ -142,15 +142,6 @@ task_order-order-requires c =
       delay_value = c.requires.delay_value;
     }
 
-pub slice_bounds-later_edges-end : goal.slice_bounds-later_edges-end
-slice_bounds-later_edges-end c = refl
-
-pub slice_bounds-later_edges-end-2 : goal.slice_bounds-later_edges-end-2
-slice_bounds-later_edges-end-2 c = refl
-
-pub slice_bounds-later_edges-end-3 : goal.slice_bounds-later_edges-end-3
-slice_bounds-later_edges-end-3 c = refl
-
 pub later_edges-late-requires : goal.later_edges-late-requires
 later_edges-late-requires c =
     record {
@@ -160,15 +151,7 @@ later_edges-late-requires c =
     }
 
 pub loop-done-init : goal.loop-done-init
-loop-done-init c = (turns-none _ _ _ _ _, refl)
-
-pub overflow_add-next : goal.overflow_add-next
-overflow_add-next c =
-    let i = (goal.at.overflow_add-next c).In-loop-done in
-    omega (arith, (room i).small)
-
-pub slice_bounds-gather_ends-end-in-loop-done-4 : goal.slice_bounds-gather_ends-end-in-loop-done-4
-slice_bounds-gather_ends-end-in-loop-done-4 c = sym c.loop-done.invariant.1
+loop-done-init c = record { filled = turns-none _ _ _ _; awaited-long = refl }
 
 pub gather_ends-requires : goal.gather_ends-requires
 gather_ends-requires c =
@@ -183,22 +166,11 @@ gather_ends-requires c =
         λ k l.
             let inside = subst (λ (m : ℕ). k < m) long l in (
               omega (arith, front-entry (backs i) (count i) k inside, entry-back (ready (begin i)).bounds (entries i) k inside),
-              omega (arith, sinks-inside i k l, c.requires.time_len_bound.0, c.loop-done.invariant.1),
+              omega (arith, sinks-inside i k l, c.requires.time_len_bound.0, c.loop-done.invariant.awaited-long),
             ),
-        λ k. subst (λ (xs : List ℕ). get_or xs k 0 ≤ 1073741824) (sym (filled-front c.loop-done.invariant.0)) (so-far-small (ready (begin i)) (done i) (omega (arith, c.requires.time_len_bound.1, more i)) k),
+        λ k. subst (λ (xs : List ℕ). get_or xs k 0 ≤ 1073741824) (sym (filled-front i.loop-done.invariant.filled)) (so-far-small (ready (begin i)) (done i) (omega (arith, c.requires.time_len_bound.1, more i)) k),
       );
     }
-
-pub slice_bounds-make_turn-end-in-loop-done : goal.slice_bounds-make_turn-end-in-loop-done
-slice_bounds-make_turn-end-in-loop-done c = sym c.task_order-order.ensures.room.0
-
-pub slice_bounds-make_turn-end-in-loop-done-2 : goal.slice_bounds-make_turn-end-in-loop-done-2
-slice_bounds-make_turn-end-in-loop-done-2 c = sym c.task_order-order.ensures.room.1
-
-pub offset_bounds-starts-at : goal.offset_bounds-starts-at
-offset_bounds-starts-at c =
-    let i = (goal.at.offset_bounds-starts-at c).In-loop-done in
-    omega (arith, (room i).small)
 
 pub make_turn-requires : goal.make_turn-requires
 make_turn-requires c =
@@ -214,22 +186,11 @@ make_turn-requires c =
       );
     }
 
-pub overflow_add-done : goal.overflow_add-done
-overflow_add-done c =
-    let i = (goal.at.overflow_add-done c).In-loop-done in
-    omega (arith, more i, c.ranges.turns)
-
-pub loop-done-smaller : goal.loop-done-smaller
-loop-done-smaller c = omega (arith, c.loop-done-test.true)
-
 pub loop-done-preserved : goal.loop-done-preserved
 loop-done-preserved c =
     let t = (goal.at.loop-done-preserved c).After-make_turn in
     let i = in-turn (gathered-turn t) in
-    (filled_more i.loop-done.invariant.0 (more i) (room i).starts-to (row_is t), start-room (gathered-turn t))
-
-pub shape_of-starts : goal.shape_of-starts
-shape_of-starts c = c.loop-done.invariant.0.starts-long
+    record { filled = filled_more i.loop-done.invariant.filled (room i).within (row_is t); awaited-long = start-room (gathered-turn t) }
 
 pub returns : goal.returns
-returns c = filled-all c.loop-done.invariant.0 (omega (arith, c.loop-done-test.false))
+returns c = filled-all c.loop-done.invariant.filled (omega (arith, c.loop-done-test.false))

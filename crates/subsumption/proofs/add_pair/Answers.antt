@@ -24,12 +24,7 @@ count_edge-requires c =
       tasks_bound = (few.0, few.1, few.2, omega arith, counts-covered held (omega (arith, kept, all, c.requires.sink_len.2)) args.a args.b);
     }
 
-pub returns : goal.returns
+pub returns-clause-counts : goal.returns-clause-counts
 unfolding with_pair pair_edge
-returns c =
-    let rows = c.join_rows.ensures in
-    let columns = c.join_rows-2.ensures in
-    record {
-      delays = (rows, columns);
-      counts = counts-more (c.shift_edges.ensures _ _ rows.inside columns.inside) c.args.a c.args.b 0 c.count_edge.ensures;
-    }
+returns-clause-counts c =
+    counts-more (c.shift_edges.ensures _ _ c.join_rows.ensures.inside c.join_rows-2.ensures.inside) c.args.a c.args.b 0 c.count_edge.ensures

@@ -1,23 +1,21 @@
--- `subsumption::below` meets its contract, by the two cases of its test: below 32,768 the signed test tells which number is smaller.
-use mathlib.Core.Path.{sym, ap}
-use mathlib.Core.Bool.{Bool}
-use Prim.Native.Nat.{◌+◌}
-use native.Mathlib.Omega.{arith}
-use borrow.Author.Tests.{le-leb, lt-leb}
+-- `subsumption::below` meets its contract: below 32,768 the signed test tells which number is smaller, and its 1 or 0 counts it.
+use mathlib.Core.Path.{◌≡◌, refl, sym, ap, ◌∙◌}
+use mathlib.Core.Bool.{Bool, true, false}
+use Prim.Native.Nat.{ℕ}
+use native.Mathlib.Numerals.{add-one}
+use lib.Dec.{leb, ltb}
+use Rattle.std.specs.Int.{from_bool}
 use Rattle.model.specs.Lists.{counted}
-use Rattle.delays.proofs.Signed.{signed-less, signed-not-less}
+use Rattle.delays.proofs.Signed.{signed_test}
 use Rattle.subsumption.proofs.below.Goals as goal
 
-pub returns-then-x-limit : goal.returns-then-x-limit
+counted_by : (b : Bool) → from_bool b ≡ counted b 1
 unfolding counted
-returns-then-x-limit c =
-    let args = c.args in
-    let less = signed-less args.x args.limit c.requires.0 c.requires.1 c.if-x-limit.true in
-    sym (ap (λ (b : Bool). counted b 1) (le-leb (args.x + 1) args.limit (omega arith)))
+counted_by true = refl
+counted_by false = refl
 
 pub returns : goal.returns
-unfolding counted
 returns c =
     let args = c.args in
-    let not-less = signed-not-less args.x args.limit c.requires.0 c.requires.1 c.if-x-limit.false in
-    sym (ap (λ (b : Bool). counted b 1) (lt-leb (args.x + 1) args.limit (omega arith)))
+    c.from.ensures ∙ ap from_bool (signed_test args.x args.limit c.requires.0 c.requires.1) ∙ counted_by (ltb args.x args.limit) ∙
+    ap (λ (x : ℕ). counted (leb x args.limit) 1) (sym (add-one args.x))

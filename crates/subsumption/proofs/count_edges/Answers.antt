@@ -1,13 +1,10 @@
 -- `subsumption::count_edges` meets its contract: after j steps the first j edges are counted.
-use mathlib.Core.Path.{◌≡◌, refl, subst, ◌∙◌}
-use Prim.Native.Nat.{ℕ}
+use mathlib.Core.Path.{◌≡◌}
 use native.Mathlib.Omega.{arith}
 use lib.ListN.{length}
-use Rattle.model.specs.Lists.{tabulate}
 use Rattle.records.specs.Columns.{at, held_edge, edges_of}
 use Rattle.records.proofs.Edges.{edge_in_lem}
 use Rattle.records.proofs.Fill.{length-tabulate}
-use Rattle.subsumption.specs.Subsumption.{CountsOf}
 use Rattle.subsumption.proofs.Totals.{counts-covered, first-none, first_counted}
 use Rattle.subsumption.proofs.count_edges.Goals as goal
 
@@ -15,28 +12,7 @@ pub loop-j-init : goal.loop-j-init
 loop-j-init c =
     let args = c.args in
     let asked = c.requires in
-    (omega arith, first-none args.source.now args.sink.now args.delay.now args.tasks args.from.now args.to.now asked.tasks_in_bounds.2 asked.small.1, refl)
-
-pub bounds-source-j : goal.bounds-source-j
-bounds-source-j c = omega (arith, c.requires.sink_len)
-
-pub overflow_cast-source : goal.overflow_cast-source
-overflow_cast-source c = omega (arith, c.type_inv.source c.loop-j.j)
-
-pub bounds-sink-j : goal.bounds-sink-j
-bounds-sink-j c = omega (arith, c.requires.sink_len)
-
-pub overflow_cast-sink : goal.overflow_cast-sink
-overflow_cast-sink c = omega (arith, c.type_inv.sink c.loop-j.j)
-
-pub bounds-delay-j : goal.bounds-delay-j
-bounds-delay-j c = omega (arith, c.requires.sink_len)
-
-pub overflow_cast-delay : goal.overflow_cast-delay
-overflow_cast-delay c = omega (arith, c.type_inv.delay c.loop-j.j)
-
-pub overflow_add-delay : goal.overflow_add-delay
-overflow_add-delay c = omega (arith, c.type_inv.delay c.loop-j.j)
+    first-none args.source.now args.sink.now args.delay.now args.tasks args.from.now args.to.now asked.tasks_in_bounds.2 asked.small.1
 
 pub count_edge-requires : goal.count_edge-requires
 unfolding held_edge
@@ -48,32 +24,24 @@ count_edge-requires c =
     let ends = asked.tasks_bound.1 (held_edge args.source.now args.sink.now args.delay.now loop.j) (edge_in_lem args.source.now args.sink.now args.delay.now loop.j below) in
     let many = length-tabulate loop.j (held_edge args.source.now args.sink.now args.delay.now) in
     record {
-      tasks_in_bounds = (asked.tasks_in_bounds.0, asked.tasks_in_bounds.1, loop.invariant.1.size, asked.small.0);
+      tasks_in_bounds = (asked.tasks_in_bounds.0, asked.tasks_in_bounds.1, loop.invariant.size, asked.small.0);
       tasks_bound = (
         asked.tasks_bound.0,
         ends.0,
         ends.1,
         omega (arith, c.type_inv.delay loop.j),
-        counts-covered loop.invariant.1 (omega (arith, many, asked.sink_len, below)) _ _,
+        counts-covered loop.invariant (omega (arith, many, asked.sink_len, below)) _ _,
       );
     }
-
-pub overflow_add-j : goal.overflow_add-j
-overflow_add-j c = omega (arith, c.requires.sink_len, c.loop-j-test.true)
 
 pub loop-j-preserved : goal.loop-j-preserved
 unfolding at
 loop-j-preserved c =
     let args = c.args in
-    let counted = c.count_edge.ensures in
-    (omega arith, first_counted args.source.now args.sink.now args.delay.now args.tasks args.from.now args.to.now c.loop-j.j c.loop-j.invariant.1 counted, counted.size ∙ c.loop-j.invariant.2)
-
-pub shape_of-counts : goal.shape_of-counts
-shape_of-counts c = c.loop-j.invariant.2
+    first_counted args.source.now args.sink.now args.delay.now args.tasks args.from.now args.to.now c.loop-j.j c.loop-j.invariant c.count_edge.ensures
 
 pub returns : goal.returns
 unfolding edges_of
 returns c =
-    let args = c.args in
-    let whole : c.loop-j.j ≡ length args.source.now = omega arith in
-    subst (λ (j : ℕ). CountsOf args.tasks args.from.now args.to.now (tabulate j (held_edge args.source.now args.sink.now args.delay.now)) c.loop-j.counts) whole c.loop-j.invariant.1
+    let whole : c.loop-j.j ≡ length c.args.source.now = omega arith in
+    rw whole at c.loop-j.invariant

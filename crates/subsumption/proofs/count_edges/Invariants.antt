@@ -1,7 +1,4 @@
 -- `subsumption::count_edges` meets its contract: after j steps the first j edges are counted.
-use mathlib.Core.Path.{◌≡◌}
-use Prim.Native.Nat.{◌-◌, ◌≤◌}
-use lib.ListN.{length}
 use Rattle.model.specs.Lists.{tabulate}
 use Rattle.records.specs.Columns.{held_edge}
 use Rattle.subsumption.specs.Subsumption.{CountsOf}
@@ -9,7 +6,4 @@ use Rattle.subsumption.proofs.count_edges.Given as goal
 
 abbrev pub invariant-loop-j : goal.invariant-loop-j
 invariant-loop-j l =
-    (l.j ≤ length l.source) × CountsOf l.tasks l.from l.to (tabulate l.j (held_edge l.source l.sink l.delay)) l.counts × (length l.counts ≡ length l.initial.counts)
-
-abbrev pub decreases-loop-j : goal.decreases-loop-j
-decreases-loop-j l = length l.source - l.j
+    CountsOf l.tasks l.from l.to (tabulate l.j (held_edge l.source l.sink l.delay)) l.counts

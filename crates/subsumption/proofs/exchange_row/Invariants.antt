@@ -1,11 +1,7 @@
 -- `subsumption::exchange_row` meets its contract: after b steps the first b counts lost the one row and have the other.
-use Prim.Native.Nat.{◌-◌, ◌≤◌}
 use Rattle.records.specs.Columns.{at}
 use Rattle.subsumption.specs.Subsumption.{RowShifted}
 use Rattle.subsumption.proofs.exchange_row.Given as goal
 
 abbrev pub invariant-loop-b : goal.invariant-loop-b
-invariant-loop-b l = (l.b ≤ 64) × RowShifted (λ i. at l.less i) (λ i. at l.more i) l.place l.b l.initial.counts l.counts
-
-abbrev pub decreases-loop-b : goal.decreases-loop-b
-decreases-loop-b l = 64 - l.b
+invariant-loop-b l = RowShifted (λ i. at l.less i) (λ i. at l.more i) l.place l.b l.initial.counts l.counts

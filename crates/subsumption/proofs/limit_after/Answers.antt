@@ -7,8 +7,8 @@ use Rattle.subsumption.proofs.limit_after.Goals as goal
 
 pub returns-then-is_subsumed : goal.returns-then-is_subsumed
 unfolding counted
-returns-then-is_subsumed c = ap (λ (b : Bool). counted (not b) (c.args.delay + 1)) (sym c.if-is_subsumed.true ∙ c.is_subsumed.ensures)
+returns-then-is_subsumed c = ap (λ (b : Bool). counted (not b) (c.args.e.delay + 1)) (sym c.if-is_subsumed.true ∙ c.is_subsumed.ensures)
 
-pub returns : goal.returns
+pub returns-else-is_subsumed : goal.returns-else-is_subsumed
 unfolding counted
-returns c = ap (λ (b : Bool). counted (not b) (c.args.delay + 1)) (sym c.if-is_subsumed.false ∙ c.is_subsumed.ensures)
+returns-else-is_subsumed c = ap (λ (b : Bool). counted (not b) (c.args.e.delay + 1)) (sym c.if-is_subsumed.false ∙ c.is_subsumed.ensures)

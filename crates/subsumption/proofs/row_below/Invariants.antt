@@ -1,10 +1,6 @@
 -- `subsumption::row_below` meets its contract: after b steps the first b delays are tested.
-use Prim.Native.Nat.{◌-◌, ◌≤◌}
 use Rattle.subsumption.specs.Subsumption.{BelowRow}
 use Rattle.subsumption.proofs.row_below.Given as goal
 
 abbrev pub invariant-loop-b : goal.invariant-loop-b
-invariant-loop-b l = (l.b ≤ 64) × BelowRow l.delays l.limit l.b l.row
-
-abbrev pub decreases-loop-b : goal.decreases-loop-b
-decreases-loop-b l = 64 - l.b
+invariant-loop-b l = BelowRow l.delays l.limit l.b l.row

@@ -1,10 +1,8 @@
 -- `subsumption::shift_edge` meets its contract: after a steps the edge is counted anew for the pairs out of the first a tasks.
-use mathlib.Core.Path.{◌≡◌, refl, sym, subst}
-use mathlib.Core.List.{List}
-use Prim.Native.Nat.{ℕ, ◌+◌, ◌-◌, ◌<◌}
+use mathlib.Core.Path.{◌≡◌}
+use Prim.Native.Nat.{◌-◌, ◌<◌}
 use native.Mathlib.Omega.{arith}
 use Rattle.records.specs.Columns.{at}
-use Rattle.subsumption.specs.Subsumption.{BelowRow, EdgeShifted}
 use Rattle.subsumption.proofs.Shifts.{below-few, below-zero, edge_none, edge-covered, edge_moved, edge-passed}
 use Rattle.subsumption.proofs.shift_edge.Goals as goal
 use Rattle.subsumption.proofs.shift_edge.Goals.{then-moves, else-moves, In-loop-a}
@@ -15,57 +13,30 @@ few-rows c = omega (arith, c.requires.limit_bound.2, c.loop-a-test.true)
 -- what is left for the row that is next
 old-left :
     (c : In-loop-a)
-    → at c.left_row.new.left c.loop-a.a ≡ c.args.limit - at c.args.from.now c.loop-a.a
+    → at c.left_row.new.left c.loop-a.a ≡ c.args.was.limit - at c.args.was.from.now c.loop-a.a
 old-left c = c.left_row.ensures.each c.loop-a.a (few-rows c)
 
 new-left :
     (c : In-loop-a)
-    → at c.left_row-2.new.left c.loop-a.a ≡ c.args.next_limit - at c.args.next_from.now c.loop-a.a
+    → at c.left_row-2.new.left c.loop-a.a ≡ c.args.next.limit - at c.args.next.from.now c.loop-a.a
 new-left c = c.left_row-2.ensures.each c.loop-a.a (few-rows c)
-
-pub slice_bounds-left_row-end : goal.slice_bounds-left_row-end
-slice_bounds-left_row-end c = refl
-
-pub left_row-requires : goal.left_row-requires
-left_row-requires c = (c.requires.from_len.0, refl)
-
-pub slice_bounds-left_row-end-2 : goal.slice_bounds-left_row-end-2
-slice_bounds-left_row-end-2 c = refl
-
-pub left_row-requires-2 : goal.left_row-requires-2
-left_row-requires-2 c = (c.requires.from_len.2, refl)
 
 pub loop-a-init : goal.loop-a-init
 loop-a-init c =
     let args = c.args in
-    (omega arith, edge_none (at args.from.now) (at args.to.now) (at args.next_from.now) (at args.next_to.now) args.limit args.next_limit args.counts.now, below-zero args.to.now, below-zero args.next_to.now)
-
-pub slice_bounds-renew_row-end : goal.slice_bounds-renew_row-end
-slice_bounds-renew_row-end c = sym c.loop-a.invariant.2.size
+    (edge_none args.counts.now, below-zero args.was.to.now, below-zero args.next.to.now)
 
 pub renew_row-requires : goal.renew_row-requires
 unfolding at
 renew_row-requires c =
     let rows = c.requires.from_len in
-    (rows.1, omega (arith, old-left (goal.at.renew_row-requires c).In-loop-a, c.requires.limit_bound.0), rows.4, c.loop-a.invariant.2)
-
-pub slice_bounds-renew_row-end-then-moves : goal.slice_bounds-renew_row-end-then-moves
-slice_bounds-renew_row-end-then-moves c = sym c.loop-a.invariant.3.size
+    (rows.1, omega (arith, old-left (goal.at.renew_row-requires c).In-loop-a, c.requires.limit_bound.0), rows.4, c.loop-a.invariant.1)
 
 pub renew_row-requires-then-moves : goal.renew_row-requires-then-moves
 unfolding at
 renew_row-requires-then-moves c =
     let rows = c.requires.from_len in
-    (rows.3, omega (arith, new-left (goal.at.renew_row-requires-then-moves c).In-loop-a, c.requires.limit_bound.1), rows.5, c.loop-a.invariant.3)
-
-pub slice_bounds-exchange_row-end : goal.slice_bounds-exchange_row-end
-slice_bounds-exchange_row-end c = sym c.renew_row-then-moves.ensures.size
-
-pub slice_bounds-exchange_row-end-then-moves : goal.slice_bounds-exchange_row-end-then-moves
-slice_bounds-exchange_row-end-then-moves c = sym c.renew_row.ensures.size
-
-pub overflow_mul-a : goal.overflow_mul-a
-overflow_mul-a c = omega (arith, c.requires.limit_bound.2, c.loop-a-test.true)
+    (rows.3, omega (arith, new-left (goal.at.renew_row-requires-then-moves c).In-loop-a, c.requires.limit_bound.1), rows.5, c.loop-a.invariant.2)
 
 pub exchange_row-requires : goal.exchange_row-requires
 unfolding at
@@ -77,50 +48,30 @@ exchange_row-requires c =
     let less = c.renew_row.ensures in
     let loop = c.loop-a in
     record {
-      more_len = (more.size, less.size, omega (arith, few.3, loop.invariant.1.size, below), omega (arith, few.2, below));
+      more_len = (more.size, less.size, omega (arith, few.3, loop.invariant.0.size, below), omega (arith, few.2, below));
       by_index = λ b l.
-          let covered = edge-covered (at args.from.now) (at args.to.now) (at args.next_from.now) (at args.next_to.now) args.limit args.next_limit loop.invariant.1 c.requires.covered below (old-left (goal.at.exchange_row-requires c).In-loop-a) b l in
-          (below-few args.next_to.now _ more b l, omega (arith, less.each b l, covered.0), covered.1);
+          let covered = edge-covered loop.invariant.0 c.requires.covered below (old-left (goal.at.exchange_row-requires c).In-loop-a) b l in
+          (below-few more b l, omega (arith, less.each b l, covered.0), covered.1);
     }
-
-pub overflow_add-a : goal.overflow_add-a
-overflow_add-a c = omega (arith, c.requires.limit_bound.2, c.loop-a-test.true)
 
 pub loop-a-preserved : goal.loop-a-preserved
 unfolding at
 loop-a-preserved c =
-    let args = c.args in
     let loop = c.loop-a in
     let old = old-left (goal.at.loop-a-preserved c).In-loop-a in
-    let new = new-left (goal.at.loop-a-preserved c).In-loop-a in
-    let Next : List ℕ → Type 0 = λ after. EdgeShifted (at args.from.now) (at args.to.now) (at args.next_from.now) (at args.next_to.now) args.limit args.next_limit (loop.a + 1) args.counts.now after in
-    let Less : List ℕ → ℕ → Type 0 = λ row last. BelowRow args.to.now last 64 row in
-    let More : List ℕ → ℕ → Type 0 = λ row last. BelowRow args.next_to.now last 64 row in (
-      omega arith,
+    let new = new-left (goal.at.loop-a-preserved c).In-loop-a in (
       elim c.if-moves.branch [
         | then-moves w ↦
-            subst Next (sym w.counts-is)
-            (edge_moved (at args.from.now) (at args.to.now) (at args.next_from.now) (at args.next_to.now) args.limit args.next_limit loop.invariant.1 old new (λ b l. w.renew_row.ensures.each b l) (λ b l. w.renew_row-then-moves.ensures.each b l) w.exchange_row.ensures)
-        | else-moves w ↦
-            subst Next (sym w.counts-is)
-            (edge-passed (at args.from.now) (at args.to.now) (at args.next_from.now) (at args.next_to.now) args.limit args.next_limit loop.invariant.1 old new c.requires.limit_bound.4 (c.moves.ensures w.if-moves.false))
+            rw w.counts-is
+            (edge_moved loop.invariant.0 old new (λ b l. w.renew_row.ensures.each b l) (λ b l. w.renew_row-then-moves.ensures.each b l) w.exchange_row.ensures)
+        | else-moves w ↦ rw w.counts-is (edge-passed loop.invariant.0 old new c.requires.limit_bound.4 (c.moves.ensures w.if-moves.false))
       ],
       elim c.if-moves.branch [
-        | then-moves w ↦ subst (λ (row : List ℕ). Less row c.if-moves.last) (sym w.less-is) (subst (Less _) (sym w.last-is) w.renew_row.ensures)
-        | else-moves w ↦ subst (λ (row : List ℕ). Less row c.if-moves.last) (sym w.less-is) (subst (Less _) (sym w.last-is) loop.invariant.2)
+        | then-moves w ↦ rw (w.less-is, w.last-is) w.renew_row.ensures
+        | else-moves w ↦ rw (w.less-is, w.last-is) loop.invariant.1
       ],
       elim c.if-moves.branch [
-        | then-moves w ↦
-            subst (λ (row : List ℕ). More row c.if-moves.next_last) (sym w.more-is) (subst (More _) (sym w.next_last-is) w.renew_row-then-moves.ensures)
-        | else-moves w ↦ subst (λ (row : List ℕ). More row c.if-moves.next_last) (sym w.more-is) (subst (More _) (sym w.next_last-is) loop.invariant.3)
+        | then-moves w ↦ rw (w.more-is, w.next_last-is) w.renew_row-then-moves.ensures
+        | else-moves w ↦ rw (w.more-is, w.next_last-is) loop.invariant.2
       ],
     )
-
-pub shape_of-counts : goal.shape_of-counts
-shape_of-counts c = c.loop-a.invariant.1.size
-
-pub returns : goal.returns
-returns c =
-    let args = c.args in
-    let whole : c.loop-a.a ≡ args.tasks = omega arith in
-    subst (λ (a : ℕ). EdgeShifted (at args.from.now) (at args.to.now) (at args.next_from.now) (at args.next_to.now) args.limit args.next_limit a args.counts.now c.loop-a.counts) whole c.loop-a.invariant.1

@@ -1,31 +1,18 @@
 -- `subsumption::shift_edges` meets its contract: after j steps the first j edges are counted by the delays as they fall, whatever lists hold them.
-use mathlib.Core.Path.{◌≡◌, refl, sym, subst, ◌∙◌}
-use mathlib.Core.Bool.{not}
-use Prim.Native.Nat.{ℕ}
+use mathlib.Core.Path.{◌≡◌, refl, sym}
 use native.Mathlib.Omega.{arith}
 use lib.ListN.{length}
 use Rattle.records.specs.Columns.{at, held_edge, edges_of}
 use Rattle.records.proofs.Edges.{edge_in_lem}
-use Rattle.subsumption.specs.Subsumption.{subsumes_by}
 use Rattle.subsumption.proofs.Shifts.{edge-as}
-use Rattle.subsumption.proofs.Totals.{Changed, changed-none, changed-covered, changed-more, changed-all}
+use Rattle.subsumption.proofs.Totals.{changed-none, changed-covered, changed-more, changed-all}
 use Rattle.subsumption.proofs.Fallen.{lowered-rows, lowers-rows}
 use Rattle.subsumption.proofs.shift_edges.Goals as goal
 
 pub loop-j-init : goal.loop-j-init
 unfolding edges_of
 loop-j-init c =
-    let args = c.args in
-    (omega arith, λ from' to' rows columns. changed-none args.source.now args.sink.now args.delay.now args.tasks args.from.now args.to.now from' to' (λ e. not (subsumes_by args.from.now args.to.now args.a args.b e)) (length args.source.now) c.requires.counts_of, refl)
-
-pub bounds-source-j : goal.bounds-source-j
-bounds-source-j c = omega (arith, c.requires.sink_len)
-
-pub bounds-sink-j : goal.bounds-sink-j
-bounds-sink-j c = omega (arith, c.requires.sink_len)
-
-pub bounds-delay-j : goal.bounds-delay-j
-bounds-delay-j c = omega (arith, c.requires.sink_len)
+    λ from' to' rows columns. changed-none _ _ _ _ _ _ _ _ _ _ c.requires.counts_of
 
 pub shift_one-requires : goal.shift_one-requires
 unfolding held_edge at
@@ -36,18 +23,15 @@ shift_one-requires c =
     let rows = c.requires.tasks_in_bounds in
     let few = c.requires.tasks_bound in
     let ends = few.3 (held_edge args.source.now args.sink.now args.delay.now loop.j) (edge_in_lem args.source.now args.sink.now args.delay.now loop.j below) in
-    let from' = lowered-rows args.a args.b args.tasks args.from.now in
-    let to' = lowered-rows args.b args.a args.tasks args.to.now in
+    let from' = lowered-rows args.a args.b args.before.tasks args.before.from.now in
+    let to' = lowered-rows args.b args.a args.before.tasks args.before.to.now in
     let changed =
-    loop.invariant.1 from' to' (lowers-rows args.a args.b args.tasks args.from.now) (lowers-rows args.b args.a args.tasks args.to.now) in
+    loop.invariant from' to' (lowers-rows args.a args.b args.before.tasks args.before.from.now) (lowers-rows args.b args.a args.before.tasks args.before.to.now) in
     record {
       tasks_in_bounds = (rows.0, rows.1, changed.size, rows.2, rows.3);
       tasks_bound = (few.0, few.1, few.2, ends.0, ends.1);
-      covered = changed-covered args.source.now args.sink.now args.delay.now args.tasks args.from.now args.to.now from' to' (λ e. not (subsumes_by args.from.now args.to.now args.a args.b e)) (length args.source.now) changed c.requires.sink_len.2 below;
+      covered = changed-covered _ _ _ _ _ _ _ _ _ _ changed c.requires.sink_len.2 below;
     }
-
-pub overflow_add-j : goal.overflow_add-j
-overflow_add-j c = omega (arith, c.requires.sink_len, c.loop-j-test.true)
 
 pub loop-j-preserved : goal.loop-j-preserved
 unfolding held_edge at
@@ -56,22 +40,14 @@ loop-j-preserved c =
     let loop = c.loop-j in
     let few = c.requires.tasks_bound in
     let ends = few.3 (held_edge args.source.now args.sink.now args.delay.now loop.j) (edge_in_lem args.source.now args.sink.now args.delay.now loop.j c.loop-j-test.true) in
-    let shifted = c.shift_one.ensures in (
-      omega arith,
-      λ from' to' rows columns.
-          changed-more args.source.now args.sink.now args.delay.now args.tasks args.from.now args.to.now from' to' (λ e. not (subsumes_by args.from.now args.to.now args.a args.b e)) (length args.source.now) (loop.invariant.1 from' to' rows columns)
-          (edge-as few.0 refl (λ x l. refl) (λ x l. refl) (λ x l. sym (rows _ x ends.0 l)) (λ x l. sym (columns _ x ends.1 l)) shifted),
-      shifted.size ∙ loop.invariant.2,
-    )
-
-pub shape_of-counts : goal.shape_of-counts
-shape_of-counts c = c.loop-j.invariant.2
+    λ from' to' rows columns.
+    changed-more _ _ _ _ _ _ _ _ _ _ (loop.invariant from' to' rows columns)
+    (edge-as few.0 refl (λ x l. refl) (λ x l. refl) (λ x l. sym (rows _ x ends.0 l)) (λ x l. sym (columns _ x ends.1 l)) c.shift_one.ensures)
 
 pub returns : goal.returns
 unfolding edges_of
 returns c =
-    let args = c.args in
-    let whole : c.loop-j.j ≡ length args.source.now = omega arith in
+    let whole : c.loop-j.j ≡ length c.args.source.now = omega arith in
     λ from' to' rows columns.
-    changed-all args.source.now args.sink.now args.delay.now args.tasks args.from.now args.to.now from' to' (λ e. not (subsumes_by args.from.now args.to.now args.a args.b e)) (length args.source.now)
-    (subst (λ (j : ℕ). Changed args.source.now args.sink.now args.delay.now args.tasks args.from.now args.to.now from' to' (λ e. not (subsumes_by args.from.now args.to.now args.a args.b e)) (length args.source.now) j c.loop-j.counts) whole (c.loop-j.invariant.1 from' to' rows columns))
+    changed-all _ _ _ _ _ _ _ _ _ _
+    (rw whole at (c.loop-j.invariant from' to' rows columns))

@@ -1,8 +1,7 @@
 -- `subsumption::shift_edges` meets its contract: after j steps the first j edges are counted by the delays as they fall, whatever lists hold them.
-use mathlib.Core.Path.{◌≡◌}
 use mathlib.Core.Bool.{not}
 use mathlib.Core.List.{List}
-use Prim.Native.Nat.{ℕ, ◌-◌, ◌≤◌}
+use Prim.Native.Nat.{ℕ}
 use lib.ListN.{length}
 use Rattle.updates.specs.Updates.{Lowers}
 use Rattle.subsumption.specs.Subsumption.{subsumes_by}
@@ -11,9 +10,5 @@ use Rattle.subsumption.proofs.shift_edges.Given as goal
 
 abbrev pub invariant-loop-j : goal.invariant-loop-j
 invariant-loop-j l =
-    (l.j ≤ length l.source) ×
-    ((from' to' : List ℕ) → Lowers l.a l.b l.tasks l.from from' → Lowers l.b l.a l.tasks l.to to' →
-    Changed l.source l.sink l.delay l.tasks l.from l.to from' to' (λ e. not (subsumes_by l.from l.to l.a l.b e)) (length l.source) l.j l.counts) × (length l.counts ≡ length l.initial.counts)
-
-abbrev pub decreases-loop-j : goal.decreases-loop-j
-decreases-loop-j l = length l.source - l.j
+    ((from' to' : List ℕ) → Lowers l.a l.b l.before.tasks l.before.from.now from' → Lowers l.b l.a l.before.tasks l.before.to.now to' →
+    Changed l.source l.sink l.delay l.before.tasks l.before.from.now l.before.to.now from' to' (λ e. not (subsumes_by l.before.from.now l.before.to.now l.a l.b e)) (length l.source) l.j l.counts)

@@ -22,7 +22,7 @@ take_edges-requires c =
     record {
       sink_len = c.requires.sink_len;
       by_index = ends-small c.args.source.now c.args.sink.now c.args.delay.now c.requires.time_len.1 c.requires.ends;
-      sinks_value = (c.no_edges-blank.ensures.0, c.no_edges-blank.ensures.1);
+      sinks_value = (refl, refl);
     }
 
 pub walk_tasks-walk-requires : goal.walk_tasks-walk-requires
@@ -33,12 +33,6 @@ walk_tasks-walk-requires c =
       crossed = crossed c.take_edges.ensures.sinks c.take_edges.ensures.sources c.requires.time_len.1 c.requires.ends;
       by_index = c.requires.by_index;
     }
-
-pub offset_bounds-sources-input : goal.offset_bounds-sources-input
-offset_bounds-sources-input c = omega (arith, c.requires.time_len.1, c.requires.time_len.2)
-
-pub bounds-sources-input : goal.bounds-sources-input
-bounds-sources-input c = omega (arith, c.requires.time_len.1, c.requires.time_len.2)
 
 pub returns : goal.returns
 returns c =

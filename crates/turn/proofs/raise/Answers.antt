@@ -1,5 +1,5 @@
 -- `turn::raise` meets its contract: the tasks that have left the set are raised.
-use Prim.Native.Nat.{ℕ, ◌≤◌}
+use Prim.Native.Nat.{ℕ}
 use mathlib.Core.Path.{◌≡◌, sym, subst}
 use mathlib.Core.Bool.{not, ◌&&◌}
 use native.Mathlib.Omega.{arith}
@@ -14,36 +14,6 @@ loop-rest-init c =
     let args = c.args in
     (raising-none args.word args.end args.row.now, releasing-none args.sources.now args.left args.word)
 
-pub first_task-t-requires : goal.first_task-t-requires
-first_task-t-requires c = let some : 1 ≤ c.loop-rest.rest = omega (arith, c.loop-rest-test.true) in some
-
-pub without_first-rest-requires : goal.without_first-rest-requires
-without_first-rest-requires c = let some : 1 ≤ c.loop-rest.rest = omega (arith, c.loop-rest-test.true) in some
-
-pub offset_bounds-row-t : goal.offset_bounds-row-t
-offset_bounds-row-t c = let there = c.requires.by_index c.first_task-t.result (c.loop-rest.invariant.0.part c.first_task-t.result c.first_task-t.ensures.2) in omega (arith, there, c.loop-rest.invariant.0.size, c.requires.sources_len.0, c.requires.sources_len.1)
-
-pub bounds-row-t : goal.bounds-row-t
-bounds-row-t c = let there = c.requires.by_index c.first_task-t.result (c.loop-rest.invariant.0.part c.first_task-t.result c.first_task-t.ensures.2) in omega (arith, there, c.loop-rest.invariant.0.size, c.requires.sources_len.0, c.requires.sources_len.1)
-
-pub offset_bounds-row-t-in-loop-rest : goal.offset_bounds-row-t-in-loop-rest
-offset_bounds-row-t-in-loop-rest c = let there = c.requires.by_index c.first_task-t.result (c.loop-rest.invariant.0.part c.first_task-t.result c.first_task-t.ensures.2) in omega (arith, there, c.loop-rest.invariant.0.size, c.requires.sources_len.0, c.requires.sources_len.1)
-
-pub bounds-row-t-in-loop-rest : goal.bounds-row-t-in-loop-rest
-bounds-row-t-in-loop-rest c = let there = c.requires.by_index c.first_task-t.result (c.loop-rest.invariant.0.part c.first_task-t.result c.first_task-t.ensures.2) in omega (arith, there, c.loop-rest.invariant.0.size, c.requires.sources_len.0, c.requires.sources_len.1)
-
-pub offset_bounds-sources-t : goal.offset_bounds-sources-t
-offset_bounds-sources-t c = let there = c.requires.by_index c.first_task-t.result (c.loop-rest.invariant.0.part c.first_task-t.result c.first_task-t.ensures.2) in omega (arith, there, c.loop-rest.invariant.0.size, c.requires.sources_len.0, c.requires.sources_len.1)
-
-pub bounds-sources-t : goal.bounds-sources-t
-bounds-sources-t c = let there = c.requires.by_index c.first_task-t.result (c.loop-rest.invariant.0.part c.first_task-t.result c.first_task-t.ensures.2) in omega (arith, there, c.loop-rest.invariant.0.size, c.requires.sources_len.0, c.requires.sources_len.1)
-
-pub with_task_if_empty-ready-requires : goal.with_task_if_empty-ready-requires
-with_task_if_empty-ready-requires c = c.first_task-t.ensures.1
-
-pub loop-rest-smaller : goal.loop-rest-smaller
-loop-rest-smaller c = c.without_first-rest.ensures.0
-
 pub loop-rest-preserved : goal.loop-rest-preserved
 unfolding at
 loop-rest-preserved c =
@@ -54,10 +24,7 @@ loop-rest-preserved c =
     let rest = c.without_first-rest.result in
     let out : (b : ℕ) → bit rest b ≡ bit c.loop-rest.rest b && not (eqb t b) =
     subst (λ (u : ℕ). (b : ℕ) → bit rest b ≡ bit c.loop-rest.rest b && not (eqb u b)) (sym c.first_task-t.ensures.0) c.without_first-rest.ensures.1 in
-    (raising-more inv.0 t rest (omega (arith, there, inv.0.size)) c.first_task-t.ensures.2 c.later.ensures out, releasing-more inv.1 t rest on out c.with_task_if_empty-ready.ensures)
-
-pub shape_of-row : goal.shape_of-row
-shape_of-row c = c.loop-rest.invariant.0.size
+    (raising-more inv.0 t rest (omega (arith, there, inv.0.size)) c.first_task-t.ensures.2 c.max.ensures out, releasing-more inv.1 t rest on out c.with_task_if_empty-ready.ensures)
 
 pub returns : goal.returns
 returns c =

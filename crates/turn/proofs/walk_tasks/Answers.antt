@@ -1,7 +1,7 @@
 -- `turn::walk_tasks` meets its contract: each step takes one task more, and keeps what `Taking` says.
-use mathlib.Core.Path.{◌≡◌, refl, sym, ◌∙◌, subst}
+use mathlib.Core.Path.{◌≡◌, refl, sym, subst}
 use mathlib.Core.Bool.{not, ◌&&◌}
-use Prim.Native.Nat.{ℕ, ◌≤◌, ◌<◌}
+use Prim.Native.Nat.{ℕ, ◌<◌}
 use native.Mathlib.Omega.{arith}
 use lib.Bits.{bit_or}
 use lib.Dec.{eqb}
@@ -11,53 +11,11 @@ use Rattle.reach.proofs.Bits.{bit-or}
 use Rattle.turn.proofs.Taking.{taking-none, next-inside, some_left, taking-more, taking-all, taking-ends}
 use Rattle.turn.proofs.walk_tasks.Goals as goal
 
-pub free_tasks-ready-requires : goal.free_tasks-ready-requires
-free_tasks-ready-requires c = (c.requires.sinks_len.1, c.requires.input_in_bounds.1)
-
-pub with_bit-reached-requires : goal.with_bit-reached-requires
-with_bit-reached-requires c = omega (arith, c.requires.input_in_bounds.0, c.requires.input_in_bounds.1)
-
 pub loop-ready-init : goal.loop-ready-init
 loop-ready-init c = taking-none c.args.sinks.now c.args.time.now c.args.input refl c.requires.by_index c.with_bit-reached.ensures c.free_tasks-ready.ensures c.requires.input_in_bounds.2
 
-pub first_task-v-requires : goal.first_task-v-requires
-first_task-v-requires c = let some : 1 ≤ c.loop-ready.ready = omega (arith, c.loop-ready-test.true) in some
-
-pub without_first-ready-requires : goal.without_first-ready-requires
-without_first-ready-requires c = let some : 1 ≤ c.loop-ready.ready = omega (arith, c.loop-ready-test.true) in some
-
-pub with_bit-done-requires : goal.with_bit-done-requires
-with_bit-done-requires c = c.first_task-v.ensures.1
-
-pub offset_bounds-sinks-v : goal.offset_bounds-sinks-v
-offset_bounds-sinks-v c = omega (arith, c.first_task-v.ensures.1)
-
-pub bounds-sinks-v : goal.bounds-sinks-v
-bounds-sinks-v c = omega (arith, c.first_task-v.ensures.1, c.requires.sinks_len.0)
-
-pub overflow_cast-sequence : goal.overflow_cast-sequence
-overflow_cast-sequence c = omega (arith, c.first_task-v.ensures.1)
-
 pub bounds-sequence-taken : goal.bounds-sequence-taken
 bounds-sequence-taken c = omega (arith, c.loop-ready.invariant.listed.room, some_left c.loop-ready.invariant c.first_task-v.result c.first_task-v.ensures.2, c.requires.input_in_bounds.1)
-
-pub merged-reached-requires : goal.merged-reached-requires
-merged-reached-requires c = c.first_task-v.ensures.1
-
-pub offset_bounds-row-v : goal.offset_bounds-row-v
-offset_bounds-row-v c = omega (arith, next-inside c.loop-ready.invariant c.first_task-v.result c.first_task-v.ensures.2, c.loop-ready.invariant.walked.size, c.requires.sinks_len.2, c.requires.input_in_bounds.1)
-
-pub bounds-row-v : goal.bounds-row-v
-bounds-row-v c = omega (arith, next-inside c.loop-ready.invariant c.first_task-v.result c.first_task-v.ensures.2, c.loop-ready.invariant.walked.size, c.requires.sinks_len.2, c.requires.input_in_bounds.1)
-
-pub offset_bounds-time-v : goal.offset_bounds-time-v
-offset_bounds-time-v c = omega (arith, next-inside c.loop-ready.invariant c.first_task-v.result c.first_task-v.ensures.2, c.loop-ready.invariant.walked.size, c.requires.sinks_len.2, c.requires.input_in_bounds.1)
-
-pub bounds-time-v : goal.bounds-time-v
-bounds-time-v c = omega (arith, next-inside c.loop-ready.invariant c.first_task-v.result c.first_task-v.ensures.2, c.loop-ready.invariant.walked.size, c.requires.sinks_len.2, c.requires.input_in_bounds.1)
-
-pub overflow_cast-end : goal.overflow_cast-end
-overflow_cast-end c = omega (arith, c.type_inv.time c.first_task-v.result)
 
 pub overflow_add-end : goal.overflow_add-end
 unfolding at
@@ -88,12 +46,6 @@ loop-ready-preserved c =
     let rest = c.without_first-ready.result in
     let out : (b : ℕ) → bit rest b ≡ bit c.loop-ready.ready b && not (eqb v b) = subst (λ (u : ℕ). (b : ℕ) → bit rest b ≡ bit c.loop-ready.ready b && not (eqb u b)) (sym c.first_task-v.ensures.0) c.without_first-ready.ensures.1 in
     taking-more c.loop-ready.invariant c.requires.crossed c.requires.input_in_bounds.1 v c.with_bit-done.result rest c.others.result c.raise-ready.result (bit_or rest c.raise-ready.result) c.merged-reached.result c.first_task-v.ensures.2 c.with_bit-done.ensures out c.others.ensures c.raise-ready.ensures.released (bit-or rest c.raise-ready.result) (omega (arith, c.type_inv.time v)) c.merged-reached.ensures c.raise-ready.ensures.lifted
-
-pub shape_of-row : goal.shape_of-row
-shape_of-row c = c.loop-ready.invariant.walked.size
-
-pub shape_of-sequence : goal.shape_of-sequence
-shape_of-sequence c = c.loop-ready.invariant.listed.room ∙ sym c.requires.input_in_bounds.2
 
 pub returns : goal.returns
 returns c =

@@ -8,7 +8,7 @@ returns-then-after-before c =
     let less = signed-less c.args.after c.args.before c.requires.1 c.requires.0 c.if-after-before.true in
     record { same = (λ same. omega arith); less = (λ fell. omega arith) }
 
-pub returns : goal.returns
-returns c =
+pub returns-else-after-before : goal.returns-else-after-before
+returns-else-after-before c =
     let not-less = signed-not-less c.args.after c.args.before c.requires.1 c.requires.0 c.if-after-before.false in
     record { same = (λ same. omega arith); less = (λ fell. omega arith) }

@@ -12,34 +12,24 @@ use Rattle.updates.proofs.lower_row.Goals.{In-loop-y}
 
 -- the number read and written stands within the rows, and is small, since it is as it was
 inside : (c : In-loop-y) → c.args.start + c.loop-y.y < length c.loop-y.rows
-inside c = omega (arith, c.loop-y.invariant.1.size, c.requires.start_in_bounds, c.loop-y-test.true)
+inside c = omega (arith, c.loop-y.invariant.0.size, c.requires.start_in_bounds, c.loop-y-test.true)
 
 small : (c : In-loop-y) → at c.loop-y.rows (c.args.start + c.loop-y.y) ≤ 16383
 small c =
     let y = c.loop-y.y in
     omega (
       arith,
-      c.loop-y.invariant.1.outside (c.args.start + y) (inr (omega arith)),
+      c.loop-y.invariant.0.outside (c.args.start + y) (inr (omega arith)),
       c.requires.start_in_bounds.2 y (omega (arith, c.loop-y-test.true)),
     )
 
 pub loop-y-init : goal.loop-y-init
 loop-y-init c =
     let args = c.args in
-    (omega arith, row_none args.way args.onward.now args.start args.rows.now 32767, omega arith)
-
-pub overflow_add-before : goal.overflow_add-before
-overflow_add-before c = omega (arith, c.requires.start_in_bounds)
-
-pub offset_bounds-rows-start : goal.offset_bounds-rows-start
-offset_bounds-rows-start c = omega (arith, c.requires.start_in_bounds)
+    (row_none args.way args.onward.now args.start args.rows.now 32767, omega arith)
 
 pub bounds-rows-start : goal.bounds-rows-start
 bounds-rows-start c = inside (goal.at.bounds-rows-start c).In-loop-y
-
-pub bounds-onward-y : goal.bounds-onward-y
-bounds-onward-y c =
-    omega (arith, c.requires.way_bound.1, c.loop-y-test.true)
 
 pub overflow_add-way : goal.overflow_add-way
 unfolding at
@@ -60,13 +50,7 @@ fallen-requires c = (omega (arith, small (goal.at.fallen-requires c).In-loop-y),
 pub nearer-least-requires : goal.nearer-least-requires
 unfolding at
 nearer-least-requires c =
-    (c.loop-y.invariant.2, fall-small (omega (arith, small (goal.at.nearer-least-requires c).In-loop-y)) c.fallen.ensures.same c.fallen.ensures.less)
-
-pub overflow_add-rows : goal.overflow_add-rows
-overflow_add-rows c = omega (arith, c.requires.start_in_bounds)
-
-pub offset_bounds-rows-start-in-loop-y : goal.offset_bounds-rows-start-in-loop-y
-offset_bounds-rows-start-in-loop-y c = omega (arith, c.requires.start_in_bounds)
+    (c.loop-y.invariant.1, fall-small (omega (arith, small (goal.at.nearer-least-requires c).In-loop-y)) c.fallen.ensures.same c.fallen.ensures.less)
 
 pub bounds-rows-start-in-loop-y : goal.bounds-rows-start-in-loop-y
 bounds-rows-start-in-loop-y c = inside (goal.at.bounds-rows-start-in-loop-y c).In-loop-y
@@ -82,18 +66,14 @@ loop-y-preserved c =
     let low : new ≤ old = omega (arith, is) in
     let least = c.loop-y.least in
     let kept : c.nearer-least.result ≤ least = omega (arith, c.nearer-least.ensures) in (
-      omega arith,
-      row_more args.way args.onward.now args.start new c.nearer-least.result c.loop-y.invariant.1 (inside (goal.at.loop-y-preserved c).In-loop-y) is kept
+      row_more args.way args.onward.now args.start new c.nearer-least.result c.loop-y.invariant.0 (inside (goal.at.loop-y-preserved c).In-loop-y) is kept
           (fall-counted old new c.fallen.result least low c.fallen.ensures.less c.nearer-least.ensures),
-      omega (arith, c.loop-y.invariant.2),
+      omega (arith, c.loop-y.invariant.1),
     )
-
-pub shape_of-rows : goal.shape_of-rows
-shape_of-rows c = c.loop-y.invariant.1.size
 
 pub returns : goal.returns
 returns c =
     let args = c.args in
     let whole : c.loop-y.y ≡ 64 = omega arith in
     subst (λ (y : ℕ). RowFell args.way args.onward.now args.start y args.rows.now c.loop-y.rows c.loop-y.least) whole
-    c.loop-y.invariant.1
+    c.loop-y.invariant.0

@@ -1,14 +1,10 @@
 -- `updates::spread` meets its contract: after a steps the first a lines are copied.
 use mathlib.Core.Path.{◌≡◌}
-use Prim.Native.Nat.{◌-◌, ◌*◌, ◌≤◌}
 use lib.ListN.{length}
 use Rattle.updates.proofs.Lines.{LinesSpread}
 use Rattle.updates.proofs.spread.Given as goal
 
 abbrev pub invariant-loop-a : goal.invariant-loop-a
 invariant-loop-a l =
-    (l.a ≤ l.tasks) × (l.first ≡ l.a * l.outer) × LinesSpread l.table l.outer l.inner l.tasks l.a l.lines ×
+    LinesSpread l.table l.outer l.inner l.tasks l.a l.lines ×
     (length l.lines ≡ length l.initial.lines)
-
-abbrev pub decreases-loop-a : goal.decreases-loop-a
-decreases-loop-a l = l.tasks - l.a

