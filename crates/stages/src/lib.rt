@@ -7,10 +7,9 @@ ghost use Rattle.stages.specs.Stages.{HeldStage};
 mod listing;
 mod replacing;
 
+use layout::EdgeRecord;
 pub use listing::fill;
 pub use replacing::replace;
-
-use layout::EdgeRecord;
 
 // The edges of a stage: the first `count` records of the list.
 #[derive(Clone, Copy)]

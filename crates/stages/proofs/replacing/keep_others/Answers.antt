@@ -59,10 +59,10 @@ loop-j-preserved c =
             omega (arith, w.kept-is, inv.0),
             ap (λ (rs : List EdgeRecord). length rs) stored ∙ (length-set here.stage.edges here.kept e ∙ inv.1),
             (λ i. listed (w.kept-is i) (stored i))
-            ∙ (listed-stored here.kept here.stage.edges e (omega (arith, inv.0, inv.1, held.few, c.loop-j-test.true))
-            ∙ (ap (λ (es : List Edge). es ++ (edge_of e ∷ [])) inv.2
-            ∙ (ap (λ (r : EdgeRecord). keep t (listed j edges) ++ (edge_of r ∷ [])) same
-            ∙ sym (next ∙ keep-more t (listed j edges) (edge_of read) (said ∙ ap not w.if-not-is_subsumed.true))))),
+                ∙ (listed-stored here.kept here.stage.edges e (omega (arith, inv.0, inv.1, held.few, c.loop-j-test.true))
+                ∙ (ap (λ (es : List Edge). es ++ (edge_of e ∷ [])) inv.2
+                ∙ (ap (λ (r : EdgeRecord). keep t (listed j edges) ++ (edge_of r ∷ [])) same
+                ∙ sym (next ∙ keep-more t (listed j edges) (edge_of read) (said ∙ ap not w.if-not-is_subsumed.true))))),
             behind-set edges here.stage.edges here.kept e inv.0 stored inv.3,
           )
       | else-not-is_subsumed w ↦
@@ -70,7 +70,7 @@ loop-j-preserved c =
             omega (arith, w.kept-is, inv.0),
             ap (λ (rs : List EdgeRecord). length rs) as_before ∙ inv.1,
             (λ i. listed (w.kept-is i) (as_before i))
-            ∙ (inv.2 ∙ sym (next ∙ keep_same t (listed j edges) (edge_of read) (said ∙ ap not w.if-not-is_subsumed.false))),
+                ∙ (inv.2 ∙ sym (next ∙ keep_same t (listed j edges) (edge_of read) (said ∙ ap not w.if-not-is_subsumed.false))),
             behind-step edges here.stage.edges as_before inv.3,
           )
     ]
