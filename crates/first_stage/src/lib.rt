@@ -7,14 +7,13 @@ ghost use Rattle.records.specs.Columns.{edges_of};
 ghost use Rattle.marks.specs.Marks.{mark_at};
 ghost use Rattle.delays.specs.Delays.{delay_table, Fit};
 ghost use Rattle.redundancy.specs.Redundancy.{Apart};
-ghost use Rattle.results.specs.Fronts.{HeldFront};
+ghost use Rattle.stages.specs.Stages.{HeldStage};
 ghost use Rattle.first_stage.specs.FirstStage.{needed, first_stage_in};
 
 use delays::{has_path, least_table};
 use marks::{Marks, is_marked};
 use redundancy::redundant_marks;
-use results::store;
-use stages::StageEdges;
+use stages::{StageEdges, blank_stage};
 
 // The edges that are not marked and do not lie on a cycle, where a path leads from the sink back to the source, in their sequence.
 fn keep_needed<'a>(
@@ -28,26 +27,21 @@ fn keep_needed<'a>(
     requires sink_len { (length sink.now ≡ length source.now) × (length delay.now ≡ length source.now) }
     requires tasks_bound { (tasks ≤ 64) × (length source.now ≤ 256) × (length table.now ≡ tasks * tasks) }
     requires ends { Ends tasks (edges_of source.now sink.now delay.now) }
-    ensures { (es : List Edge) → Fit tasks es → table.now ≡ delay_table tasks es → HeldFront 256 result.count result.source result.sink result.delay (needed tasks es (mark_at marks) (edges_of source.now sink.now delay.now)) }
+    ensures { (es : List Edge) → Fit tasks es → table.now ≡ delay_table tasks es → HeldStage result (needed tasks es (mark_at marks) (edges_of source.now sink.now delay.now)) }
 {
-    let mut sources = [0; 256];
-    let mut sinks = [0; 256];
-    let mut delays = [0; 256];
-    let mut kept = 0;
+    let mut stage = blank_stage();
     for j in 0..source.len() {
         let s = source[j];
         let t = sink[j];
         if !is_marked(marks, j as u32) && !has_path(table, tasks, usize::from(t), usize::from(s)) {
-            store(s, t, delay[j], kept, &mut sources, &mut sinks, &mut delays);
-            kept += 1;
+            let edge = &mut stage.edges[stage.count as usize];
+            edge.source = s;
+            edge.sink = t;
+            edge.delay = delay[j];
+            stage.count += 1;
         }
     }
-    StageEdges {
-        count: kept as u32,
-        source: sources,
-        sink: sinks,
-        delay: delays,
-    }
+    stage
 }
 
 // The feedforward edges of an accepted graph that are not redundant, in the file's sequence. The graph comes as its edges, those of processors first. The
@@ -65,7 +59,7 @@ pub fn first_stage<'a, 'b>(
     requires fit { Fit tasks (edges_of source.now sink.now delay.now) }
     requires apart { Apart tasks (edges_of source.now sink.now delay.now) }
     requires tasks_in_bounds { tasks * tasks ≤ length table.old }
-    ensures stage { HeldFront 256 result.count result.source result.sink result.delay (first_stage_in tasks (edges_of source.now sink.now delay.now)) }
+    ensures stage { HeldStage result (first_stage_in tasks (edges_of source.now sink.now delay.now)) }
     ensures table { table.new ≡ delay_table tasks (edges_of source.now sink.now delay.now) ++ drop (tasks * tasks) table.old }
 {
     let end = source.len();

@@ -5,18 +5,16 @@ use Rattle.std.proofs.Common.{Ok}
 use mathlib.Core.List.{List, [], ◌∷◌}
 use Prim.Native.Nat.{ℕ, ◌≤◌}
 use native.Mathlib.Omega.{arith}
-use lib.ListN.{length, take}
+use lib.ListN.{length}
 use Rattle.model.specs.Graph.{Graph}
 use Rattle.model.specs.Plan.{plan_of, plan_latency}
 use Rattle.layout.specs.declared.EdgeRecord.{EdgeRecord}
-use Rattle.records.specs.Columns.{edges_of}
 use Rattle.files.specs.declared.Fault.{Fault}
 use Rattle.files.specs.declared.Refusal.{Refusal}
 use Rattle.files.specs.Files.{graph_of}
 use Rattle.files.specs.Refusals.{refusal_of, not_refused, if_passed}
 use Rattle.files.proofs.First.{passes, one-check, number_same, fault-number, if-passed, if-refused}
 use Rattle.readings.specs.Working.{graph_in}
-use Rattle.results.proofs.Fronts.{held-edges}
 use Rattle.acceptance.specs.declared.Acceptance.{Acceptance}
 use Rattle.acceptance.specs.declared.Outcome.{Outcome}
 use Rattle.acceptance.specs.Acceptance.{acceptance_refusal, Accepts}
@@ -24,7 +22,7 @@ use Rattle.acceptance.specs.Outcomes.{outcome, room_refusal}
 use Rattle.acceptance.proofs.AcceptedFiles.{accepted-number, read-fronts, graph-held}
 use Rattle.acceptance.proofs.Judged.{accepted-iff-passed}
 use Rattle.acceptance.proofs.Rooms.{refused-earlier, room-there}
-use Rattle.stages.specs.Stages.{written_into}
+use Rattle.stages.specs.Stages.{written_into, listed}
 use Rattle.plan.specs.declared.GraphPlan.{GraphPlan}
 use Rattle.plan.specs.declared.PlanAnswer.{PlanAnswer}
 use Rattle.plan.specs.Plan.{plan_refusal, plan_answer_of, plan_after, PlanFound}
@@ -78,7 +76,7 @@ module _ (s : List ℕ) (room : ℕ) where
     unfolding plan_answer_of
     passed-answer told = λ i. record {
       outcome = (told ∙ ap outcome is) i;
-      length = (found.held.sources.as_many ∙ whole (length (plan_of (graph_of s)).list) 0) i;
+      length = (found.held.as_many ∙ whole (length (plan_of (graph_of s)).list) 0) i;
       steps = (found.steps ∙ whole (plan_of (graph_of s)).steps 0) i;
       latency = (found.latency ∙ whole (plan_latency (graph_of s)) 0) i;
     }
@@ -90,16 +88,16 @@ module _ (s : List ℕ) (room : ℕ) where
         let before = room-there (acceptance_refusal s) (length (graph_of s).syncs) room none in
         let few = plan_few (graph_of s) ((accepted-iff-passed s).0 before.0).1 in
         let enough = before.1 in
-        omega (arith, found.held.sources.as_many, few, enough)
+        omega (arith, found.held.as_many, few, enough)
 
 -- ── What is written ──
 
 module _ (s : List ℕ) (list : List EdgeRecord) where
   pub list-written : not_refused ≡ plan_refusal s (length list) → {w : GraphPlan} → PlanFound (graph_of s) w →
-      written_into list (edges_of (take w.stage.count w.stage.source) (take w.stage.count w.stage.sink) (take w.stage.count w.stage.delay)) ≡ plan_after s list
+      written_into list (listed w.stage.count w.stage.edges) ≡ plan_after s list
   unfolding plan_after
   list-written is found =
-      ap (written_into list) (held-edges found.held) ∙ whole s (length list) is found (written_into list (plan_of (graph_of s)).list) list
+      ap (written_into list) found.held.held ∙ whole s (length list) is found (written_into list (plan_of (graph_of s)).list) list
 
   pub list-kept : (fault : Fault) → refusal_of fault ≡ plan_refusal s (length list) → list ≡ plan_after s list
   unfolding plan_after

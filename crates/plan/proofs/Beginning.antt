@@ -1,4 +1,4 @@
--- What the steps of a graph's plan start from: the first stage and the graph's own edges in lists.
+-- What the steps of a graph's plan start from: the first stage, the table of the graph's own edges, and times in rows as they are lent.
 use mathlib.Core.Path.{◌≡◌, refl, sym, ap, ◌∙◌, subst}
 use mathlib.Core.Logic.{◌⊎◌, inl, inr}
 use mathlib.Core.List.{List, ◌++◌}
@@ -14,10 +14,11 @@ use Rattle.records.specs.Columns.{at}
 use Rattle.readings.specs.declared.GraphReading.{GraphReading}
 use Rattle.readings.specs.Working.{graph_in}
 use Rattle.delays.specs.Delays.{delay_table}
-use Rattle.results.specs.Fronts.{HeldFront}
 use Rattle.acceptance.specs.Acceptance.{AcceptedReading}
 use Rattle.acceptance.proofs.Fronts.{front, front_edges}
 use Rattle.acceptance.proofs.Readings.{graph-fronts, few-tasks}
+use Rattle.stages.specs.declared.StageEdges.{StageEdges}
+use Rattle.stages.specs.Stages.{HeldStage}
 use Rattle.first_stage.specs.FirstStage.{first_stage_in}
 use Rattle.first_stage.proofs.Graphs.{first-stage-in}
 use Rattle.prepared.specs.Ready.{Ready}
@@ -39,13 +40,10 @@ blank-at n i = go (order n i)
 -- ── The first stage, and the table ──
 
 module _ {graph : GraphReading} (given : AcceptedReading graph) where
-  pub first-held :
-      {count : ℕ} {source sink delay : List ℕ} → HeldFront 256 count source sink delay (first_stage_in graph.tasks (front_edges graph)) →
-      HeldFront 256 count source sink delay (first_stage (graph_in graph))
-  first-held {count} {source} {sink} {delay} held =
+  pub first-held : {r : StageEdges} → HeldStage r (first_stage_in graph.tasks (front_edges graph)) → HeldStage r (first_stage (graph_in graph))
+  first-held {r} =
       let f = graph-fronts given in
-      subst (λ (es : List Edge). HeldFront 256 count source sink delay es)
-      ((λ i. first_stage_in (f.tasks-are i) (f.held i)) ∙ sym (first-stage-in (graph_in graph))) held
+      subst (λ (es : List Edge). HeldStage r es) ((λ i. first_stage_in (f.tasks-are i) (f.held i)) ∙ sym (first-stage-in (graph_in graph)))
 
   pub table-held :
       (past : List ℕ) {table : List ℕ} → table ≡ delay_table graph.tasks (front_edges graph) ++ past →
@@ -82,10 +80,10 @@ module _ {graph : GraphReading} (given : AcceptedReading graph) where
       omega (arith, longer, same, size, as_many)
 
   pub begun :
-      {many : ℕ} {source sink delay from to counts : List ℕ} {o : Precedence} (end latest past past' : List ℕ) →
-      HeldFront 256 many source sink delay (first_stage g) → Ready g (first_stage g) from to counts →
+      {stage : StageEdges} {from to counts : List ℕ} {o : Precedence} (end latest past past' : List ℕ) →
+      HeldStage stage (first_stage g) → Ready g (first_stage g) from to counts →
       Ordered g (first_stage g) (take n graph.time) o → Timed g (first_stage g) end latest →
-      Begun g (front n graph.time) many source sink delay from to counts o (take (n - 0) (end ++ past)) (take (n - 0) (latest ++ past'))
+      Begun g (front n graph.time) stage from to counts o (take (n - 0) (end ++ past)) (take (n - 0) (latest ++ past'))
   begun end latest past past' held ready ordered timed =
       let sizes = timed-sizes timed in
       record {

@@ -34,5 +34,4 @@ plan_after s edges = if_passed (plan_refusal s (length edges)).number (written_i
 
 -- Only for contracts inside: what is found is the plan of a graph, to which all steps lead.
 abbrev pub PlanFound : Graph → GraphPlan → Type 0
-PlanFound g r =
-    Followed g (record { count = r.stage.count; steps = r.steps; latency = r.latency }) r.stage.source r.stage.sink r.stage.delay
+PlanFound g r = Followed g (record { steps = r.steps; latency = r.latency }) r.stage

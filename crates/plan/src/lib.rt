@@ -9,7 +9,7 @@ ghost use Rattle.files.specs.Files.{graph_of};
 ghost use Rattle.files.specs.Refusals.{refusal_in};
 ghost use Rattle.readings.specs.Working.{graph_in};
 ghost use Rattle.delays.specs.Delays.{delay_table};
-ghost use Rattle.results.specs.Fronts.{HeldFront};
+ghost use Rattle.stages.specs.Stages.{HeldStage};
 ghost use Rattle.acceptance.specs.Acceptance.{AcceptedReading};
 ghost use Rattle.plan.specs.Plan.{plan_refusal, plan_answer_of, plan_after, PlanFound};
 
@@ -44,27 +44,23 @@ struct GraphPlan {
 // The plan of an accepted graph from its first stage on, by its table of least delays. Not put inline: its lists and those of the first
 // stage are not to be on the stack at once (RESYNC_STACK_BYTES of include/resync.h).
 #[inline(never)]
-fn plan_from(graph: GraphReading, first: StageEdges, table: &mut [u16]) -> GraphPlan
+fn plan_from(graph: GraphReading, mut stage: StageEdges, table: &mut [u16]) -> GraphPlan
     requires accepted_reading { AcceptedReading graph }
-    requires held_front { HeldFront 256 first.count first.source first.sink first.delay (first_stage (graph_in graph)) }
+    requires held_stage { HeldStage stage (first_stage (graph_in graph)) }
     requires by_index { (past : List ℕ) × (table.old ≡ delay_table (count (graph_in graph)) (edges (graph_in graph)) ++ past) }
     ensures { PlanFound (graph_in graph) result }
 {
     let mut from: [u16; 4096] = [0; 4096];
     let mut to: [u16; 4096] = [0; 4096];
     let mut counts: [u16; 4096] = [0; 4096];
-    prepare(graph, first, table, &mut from, &mut to, &mut counts);
+    prepare(graph, &stage, table, &mut from, &mut to, &mut counts);
     let tasks = graph.tasks as usize;
     let mut end: [u32; 64] = [0; 64];
     let mut latest: [u32; 64] = [0; 64];
     let order = first_times(graph, &mut end[0..tasks], &mut latest[0..tasks]);
-    let mut stage = first;
     let last = follow_steps(
         &graph.time[0..tasks],
-        first.count as usize,
-        &mut stage.source,
-        &mut stage.sink,
-        &mut stage.delay,
+        &mut stage,
         &mut from,
         &mut to,
         &mut counts,
@@ -72,7 +68,6 @@ fn plan_from(graph: GraphReading, first: StageEdges, table: &mut [u16]) -> Graph
         &mut end[0..tasks],
         &mut latest[0..tasks],
     );
-    stage.count = last.count as u32;
     GraphPlan {
         stage,
         steps: last.steps,
@@ -116,7 +111,7 @@ pub fn plan(graph: &[u8], edges: &mut [EdgeRecord]) -> PlanAnswer
 {
     match decide(graph, edges.len()) {
         Ok(plan) => {
-            fill(edges, plan.stage);
+            fill(edges, &plan.stage);
             PlanAnswer {
                 outcome: SUCCESS,
                 length: plan.stage.count,

@@ -13,18 +13,17 @@ use Rattle.model.specs.Graph.{Graph, WellFormedEdges, count, edges}
 use Rattle.model.specs.Proposals.{AcceptedGraph}
 use Rattle.model.specs.Plan.{counting, first_stage, at_first}
 use Rattle.model.proofs.Stages.{stage-accepted}
-use Rattle.records.specs.Columns.{at, edges_of}
-use Rattle.records.proofs.Edges.{edges-length}
+use Rattle.records.specs.Columns.{at, edges_in}
 use Rattle.records.proofs.Fill.{length-tabulate}
 use Rattle.records.proofs.Rows.{rows-length, place-within, product_small}
 use Rattle.delays.specs.Delays.{entry, delay_table}
 use Rattle.delays.proofs.Table.{table-length, table-front, table-room}
-use Rattle.results.specs.Fronts.{HeldFront}
-use Rattle.results.proofs.Fronts.{held-edges}
 use Rattle.updates.specs.Updates.{Small}
 use Rattle.candidates.specs.Candidates.{count_table}
 use Rattle.subsumption.specs.Subsumption.{CountsOf}
-use Rattle.stages.proofs.Staged.{front-few}
+use Rattle.stages.specs.declared.StageEdges.{StageEdges}
+use Rattle.stages.specs.Stages.{HeldStage}
+use Rattle.stages.proofs.Staged.{stage-edges}
 
 -- numbers of 0 are small
 pub blank-small : (xs : List ℕ) → ((i : ℕ) → at xs i ≡ 0) → Small xs
@@ -90,29 +89,14 @@ module _ {tasks : ℕ} {g : Graph} (accepted : AcceptedGraph g) (same : tasks �
   formed : WellFormedEdges (count g) (first_stage g)
   formed = (stage-accepted g accepted 0 (first_stage g) (at_first refl refl)).0
 
-  module _ (source sink delay : List ℕ) (held : edges_of source sink delay ≡ first_stage g) where
-    pub stage-few : length source ≤ 256
-    stage-few = omega (arith, edges-length source sink delay, ap length held, formed.few)
+  -- the edges of the stage, as they are lent
+  module _ {stage : StageEdges} (held : HeldStage stage (first_stage g)) where
+    pub lent-few : length (take stage.count stage.edges) ≤ 256
+    lent-few = omega (arith, length-take stage.count stage.edges, held.few)
 
-    pub stage-ends : Ends tasks (edges_of source sink delay)
-    stage-ends = subst (λ (es : List Edge). Ends tasks es) (sym held) (subst (λ (n : ℕ). Ends n (first_stage g)) (sym same) formed.ends)
-
--- the stage's lists as they are lent
-module _ {many : ℕ} {source sink delay : List ℕ} {list : List Edge} (front : HeldFront 256 many source sink delay list) where
-  pub many-within : (many ≤ length source) × (many ≤ length sink) × (many ≤ length delay)
-  many-within =
-      let most = front-few front in
-      (omega (arith, most, front.sources.room), omega (arith, most, front.sinks.room), omega (arith, most, front.delays.room))
-
-  pub lent-lists :
-      (length (take (many - 0) sink) ≡ length (take (many - 0) source)) × (length (take (many - 0) delay) ≡ length (take (many - 0) source))
-  lent-lists = (
-    omega (arith, length-take (many - 0) sink, length-take (many - 0) source, front.sinks.room, front.sources.room),
-    omega (arith, length-take (many - 0) delay, length-take (many - 0) source, front.delays.room, front.sources.room),
-  )
-
-  pub lent_is : edges_of (take (many - 0) source) (take (many - 0) sink) (take (many - 0) delay) ≡ list
-  lent_is = (λ i. edges_of (take (sub-zero many i) source) (take (sub-zero many i) sink) (take (sub-zero many i) delay)) ∙ held-edges front
+    pub lent-ends : Ends tasks (edges_in (take stage.count stage.edges))
+    lent-ends =
+        subst (λ (es : List Edge). Ends tasks es) (sym (stage-edges held)) (subst (λ (n : ℕ). Ends n (first_stage g)) (sym same) formed.ends)
 
 -- counts of edges are counts of the same edges
 pub counts-held :

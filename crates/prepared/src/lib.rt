@@ -7,7 +7,7 @@ ghost use Rattle.model.specs.Plan.{first_stage};
 ghost use Rattle.records.specs.Columns.{at};
 ghost use Rattle.readings.specs.Working.{graph_in};
 ghost use Rattle.delays.specs.Delays.{delay_table};
-ghost use Rattle.results.specs.Fronts.{HeldFront};
+ghost use Rattle.stages.specs.Stages.{HeldStage};
 ghost use Rattle.acceptance.specs.Acceptance.{AcceptedReading};
 ghost use Rattle.prepared.specs.Ready.{Ready};
 
@@ -20,14 +20,14 @@ use updates::spread;
 // Delays and counts of the first stage of an accepted graph, by its edges, the graph's table of least delays and lists of 0.
 pub fn prepare<'a>(
     graph: GraphReading,
-    first: StageEdges,
+    first: &StageEdges,
     table: &'a mut [u16],
     from: &'a mut [u16],
     to: &'a mut [u16],
     counts: &'a mut [u16],
 )
     requires accepted_reading { AcceptedReading graph }
-    requires held_front { HeldFront 256 first.count first.source first.sink first.delay (first_stage (graph_in graph)) }
+    requires held_stage { HeldStage first.now (first_stage (graph_in graph)) }
     requires by_index { (past : List ℕ) × (table.old ≡ delay_table (count (graph_in graph)) (edges (graph_in graph)) ++ past) }
     requires tasks_in_bounds { (graph.tasks * 64 ≤ length from.old) × (graph.tasks * 64 ≤ length to.old) × (graph.tasks * 64 ≤ length counts.old) }
     requires by_index_2 { ((i : ℕ) → at from.old i ≡ 0) × ((i : ℕ) → at to.old i ≡ 0) × ((i : ℕ) → at counts.old i ≡ 0) }
@@ -39,13 +39,5 @@ pub fn prepare<'a>(
     spread(&table[0..size], tasks, 1, tasks, from);
     spread(&table[0..size], 1, tasks, tasks, to);
     let count = first.count as usize;
-    count_edges(
-        &first.source[0..count],
-        &first.sink[0..count],
-        &first.delay[0..count],
-        from,
-        to,
-        tasks,
-        counts,
-    );
+    count_edges(&first.edges[..count], from, to, tasks, counts);
 }

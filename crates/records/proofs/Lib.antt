@@ -5,3 +5,4 @@ pub mod Parts
 pub mod Rows
 pub mod Edges
 pub mod Ordered
+pub mod EdgesIn

@@ -1,5 +1,5 @@
 -- Lists of numbers that hold tasks and edges, one number of each in each list, and what is written into them.
-use Rattle.std.specs.Prelude.{◌≡◌, List, [], ◌++◌, ℕ, zero, suc, ◌-◌, ◌<◌, length, get_or, take, drop, replicate}
+use Rattle.std.specs.Prelude.{◌≡◌, List, [], ◌++◌, ℕ, zero, suc, ◌-◌, ◌<◌, map, length, get_or, take, drop, replicate}
 use Rattle.model.specs.Lists.{tabulate}
 use Rattle.model.specs.Tasks.{Task, Edge, no_task, no_edge}
 use Rattle.layout.specs.declared.EdgeRecord.{EdgeRecord}
@@ -39,6 +39,14 @@ edges_of source sink delay = tabulate (length source) (held_edge source sink del
 -- an edge record as an edge
 unfoldable pub edge_of : EdgeRecord → Edge
 edge_of r = record { source = r.source; sink = r.sink; delay = r.delay }
+
+-- edge records as edges, in their sequence
+abbrev pub edges_in : List EdgeRecord → List Edge
+edges_in rs = map edge_of rs
+
+-- what stands at a place where no edge record is
+abbrev pub no_record : EdgeRecord
+no_record = record { source = 0; sink = 0; delay = 0 }
 
 -- the list with f 0, f 1, .. in the places from a start up to an end, which is left out; places count from 0
 unfoldable pub with_part : ℕ → ℕ → (ℕ → ℕ) → List ℕ → List ℕ

@@ -1,83 +1,53 @@
--- The lent list after so many records of a stage are stored at its front: one store more is one edge more.
+-- The edges of a list's first records: as many as there are records, one record more is one edge more, and written as records they are those records again.
 use mathlib.Core.Path.{◌≡◌, refl, sym, ap, ◌∙◌}
 use mathlib.Core.List.{List, [], ◌∷◌, ◌++◌}
 use Prim.Native.Nat.{ℕ, zero, suc, ◌+◌, ◌≤◌, ◌<◌}
 use native.Mathlib.Numerals.{add-one}
-use native.Mathlib.Omega.{arith}
 use lib.ListN.{length, get_or, take, drop, set}
-use lib.Seq.{length-take-le, drop-cons, append_snoc, set_at, get_or-take}
-use Rattle.model.specs.Lists.{tabulate}
-use Rattle.model.specs.Tasks.{Edge}
+use lib.Seq.{take-suc-set}
+use Rattle.std.proofs.lemmas.List.{map_more, map-append, length-map, length-take-le}
 use Rattle.layout.specs.declared.EdgeRecord.{EdgeRecord}
-use Rattle.records.specs.Columns.{held_edge, edges_of}
-use Rattle.records.proofs.Fill.{length-tabulate}
-use Rattle.results.proofs.Fronts.{tabulate-more}
-use Rattle.stages.specs.Stages.{record_of, records_of, written_into}
+use Rattle.model.specs.Tasks.{Edge}
+use Rattle.records.specs.Columns.{edge_of, edges_in, no_record}
+use Rattle.stages.specs.Stages.{record_of, records_of, written_into, listed}
 
 pub records-length : (es : List Edge) → length (records_of es) ≡ length es
 unfolding records_of
 records-length [] = refl
 records-length (e ∷ es) = ap suc (records-length es)
 
-records-more : (es : List Edge) (e : Edge) → records_of (es ++ (e ∷ [])) ≡ records_of es ++ (record_of e ∷ [])
-unfolding records_of
-records-more [] e = refl
-records-more (a ∷ es) e = ap (λ (rs : List EdgeRecord). record_of a ∷ rs) (records-more es e)
+-- the edges of records, as records
+records-again : (rs : List EdgeRecord) → records_of (edges_in rs) ≡ rs
+unfolding records_of record_of edge_of
+records-again [] = refl
+records-again (r ∷ rs) = ap (λ (qs : List EdgeRecord). r ∷ qs) (records-again rs)
 
-tabulate-same : {A : Type 0} (f h : ℕ → A) (n : ℕ) → ((i : ℕ) → i < n → f i ≡ h i) → tabulate n f ≡ tabulate n h
-unfolding tabulate
-tabulate-same f h zero same = refl
-tabulate-same {A} f h (suc n) same =
-    ap (λ (xs : List A). xs ++ (f n ∷ [])) (tabulate-same f h n (λ i l. same i (omega arith))) ∙
-    ap (λ (x : A). tabulate n h ++ (x ∷ [])) (same n (omega arith))
+pub listed-is : (n : ℕ) (rs : List EdgeRecord) → listed n rs ≡ edges_in (take n rs)
+unfolding listed
+listed-is zero rs = refl
+listed-is (suc n) [] = refl
+listed-is (suc n) (r ∷ rs) = ap (λ (es : List Edge). edge_of r ∷ es) (listed-is n rs)
 
-module _ (source sink delay : List ℕ) where
-  -- record j of the stage
-  abbrev pub stored : ℕ → EdgeRecord
-  stored j = record { source = get_or source j 0; sink = get_or sink j 0; delay = get_or delay j 0 }
+module _ (n : ℕ) (rs : List EdgeRecord) where
+  pub listed-length : n ≤ length rs → length (listed n rs) ≡ n
+  listed-length l = ap (λ (es : List Edge). length es) (listed-is n rs) ∙ (length-map (take n rs) edge_of ∙ length-take-le n rs l)
 
-  abbrev front : ℕ → List EdgeRecord
-  front j = records_of (tabulate j (held_edge source sink delay))
+  -- one record more
+  pub listed-more : n < length rs → listed (n + 1) rs ≡ listed n rs ++ (edge_of (get_or rs n no_record) ∷ [])
+  listed-more l =
+      listed-is (n + 1) rs ∙
+      (map_more edge_of rs n no_record l ∙ ap (λ (es : List Edge). es ++ (edge_of (get_or rs n no_record) ∷ [])) (sym (listed-is n rs)))
 
-  front_length : (j : ℕ) → length (front j) ≡ j
-  front_length j = records-length (tabulate j (held_edge source sink delay)) ∙ length-tabulate j (held_edge source sink delay)
+  -- a record stored behind the first ones
+  pub listed-stored : (e : EdgeRecord) → n < length rs → listed (n + 1) (set rs n e) ≡ listed n rs ++ (edge_of e ∷ [])
+  listed-stored e l =
+      listed-is (n + 1) (set rs n e) ∙
+      (ap (λ (m : ℕ). edges_in (take m (set rs n e))) (add-one n) ∙
+      (ap edges_in (take-suc-set rs n e l) ∙
+      (map-append edge_of (take n rs) (e ∷ []) ∙ ap (λ (es : List Edge). es ++ (edge_of e ∷ [])) (sym (listed-is n rs)))))
 
-  front-more : (j : ℕ) → front j ++ (stored j ∷ []) ≡ front (j + 1)
-  unfolding record_of held_edge
-  front-more j =
-      sym (records-more (tabulate j (held_edge source sink delay)) (held_edge source sink delay j)) ∙
-      ap records_of (sym (tabulate-more (held_edge source sink delay) j))
-
-  module _ (list : List EdgeRecord) where
-    -- the list after j stores
-    abbrev pub upto : ℕ → List EdgeRecord
-    upto j = front j ++ drop j list
-
-    pub upto-none : upto 0 ≡ list
-    unfolding records_of tabulate
-    upto-none = refl
-
-    pub upto-more : (j : ℕ) → j < length list → set (upto j) j (stored j) ≡ upto (j + 1)
-    upto-more j l =
-        ap (λ (xs : List EdgeRecord). set (front j ++ xs) j (stored j)) (drop-cons list j (stored j) l) ∙
-        (set_at (front j) (get_or list j (stored j)) (drop (suc j) list) (stored j) j (front_length j) ∙
-        (sym (append_snoc (front j) (stored j) (drop (suc j) list)) ∙
-        (ap (λ (xs : List EdgeRecord). xs ++ drop (suc j) list) (front-more j) ∙ ap (λ (n : ℕ). front (j + 1) ++ drop n list) (sym (add-one j)))))
-
-    module _ (n : ℕ) (in_source : n ≤ length source) (in-sink : n ≤ length sink) (in-delay : n ≤ length delay) where
-      pub listed : edges_of (take n source) (take n sink) (take n delay) ≡ tabulate n (held_edge source sink delay)
-      unfolding edges_of held_edge
-      listed =
-          ap (λ (m : ℕ). tabulate m (held_edge (take n source) (take n sink) (take n delay))) (length-take-le n source in_source) ∙
-          tabulate-same (held_edge (take n source) (take n sink) (take n delay)) (held_edge source sink delay) n (λ i l. λ k. record {
-            source = get_or-take n source i 0 l k;
-            sink = get_or-take n sink i 0 l k;
-            delay = get_or-take n delay i 0 l k;
-          })
-
-      -- after n stores the first n edges of the stage stand at the front
-      pub upto_all : upto n ≡ written_into list (edges_of (take n source) (take n sink) (take n delay))
-      unfolding written_into
-      upto_all =
-          ap (λ (m : ℕ). front n ++ drop m list) (sym (length-tabulate n (held_edge source sink delay))) ∙
-          ap (λ (es : List Edge). records_of es ++ drop (length es) list) (sym listed)
+  -- the first records at the front of another list
+  pub listed-written : (list : List EdgeRecord) → n ≤ length rs → take n rs ++ drop n list ≡ written_into list (listed n rs)
+  unfolding written_into
+  listed-written list l =
+      (λ i. (sym (ap records_of (listed-is n rs) ∙ records-again (take n rs)) i) ++ drop (sym (listed-length l) i) list)

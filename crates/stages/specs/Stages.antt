@@ -1,8 +1,8 @@
 -- Document 01, "What the calls hand over": the plan "written into a lent list of edge records".
-use Rattle.std.specs.Prelude.{◌≡◌, List, [], ◌∷◌, ◌++◌, ℕ, zero, suc, ◌≤◌, length, take, drop}
+use Rattle.std.specs.Prelude.{◌≡◌, List, [], ◌∷◌, ◌++◌, ℕ, zero, suc, ◌≤◌, length, drop}
 use Rattle.model.specs.Tasks.{Edge}
 use Rattle.layout.specs.declared.EdgeRecord.{EdgeRecord}
-use Rattle.records.specs.Columns.{edges_of, edge_of}
+use Rattle.records.specs.Columns.{edge_of}
 use Rattle.stages.specs.declared.StageEdges.{StageEdges}
 
 -- an edge as an edge record
@@ -23,11 +23,9 @@ listed zero rs = []
 listed (suc n) [] = []
 listed (suc n) (r ∷ rs) = edge_of r ∷ listed n rs
 
--- Only for contracts inside: the fronts of three lists hold these edges.
+-- Only for contracts inside: the first records of the list hold these edges.
 pub record HeldStage (r : StageEdges) (es : List Edge) : Type 0 where
   pub as_many : r.count ≡ length es
   pub few : r.count ≤ 256
-  pub source_room : length r.source ≡ 256
-  pub sink_room : length r.sink ≡ 256
-  pub delay_room : length r.delay ≡ 256
-  pub held : edges_of (take r.count r.source) (take r.count r.sink) (take r.count r.delay) ≡ es
+  pub room : length r.edges ≡ 256
+  pub held : listed r.count r.edges ≡ es

@@ -1,32 +1,34 @@
 // A stage of the plan: the edges that stand where a graph's feedforward edges stood.
 #![tactic(auto)]
 
-ghost use Rattle.std.specs.Prelude.{◌≡◌, length};
+ghost use Rattle.std.specs.Prelude.{[]};
+ghost use Rattle.stages.specs.Stages.{HeldStage};
 
 mod listing;
 mod replacing;
 
+use layout::EdgeRecord;
 pub use listing::fill;
 pub use replacing::replace;
 
-// The edges of a stage: the first `count` entries of the lists.
+// The edges of a stage: the first `count` records of the list.
 #[derive(Clone, Copy)]
 pub struct StageEdges {
     pub count: u32,
-    pub source: [u8; 256],
-    pub sink: [u8; 256],
-    pub delay: [u8; 256],
+    pub edges: [EdgeRecord; 256],
 }
 
 // A stage without edges, to write into.
 pub fn blank_stage() -> StageEdges
-    ensures count_value { result.count ≡ 0 }
-    ensures source_len { (length result.source ≡ 256) × (length result.sink ≡ 256) × (length result.delay ≡ 256) }
+    ensures { HeldStage result [] }
 {
+    let none = EdgeRecord {
+        source: 0,
+        sink: 0,
+        delay: 0,
+    };
     StageEdges {
         count: 0,
-        source: [0; 256],
-        sink: [0; 256],
-        delay: [0; 256],
+        edges: [none; 256],
     }
 }

@@ -16,7 +16,8 @@ use Rattle.model.proofs.Choices.{step_is}
 use Rattle.model.proofs.Stages.{step-lowers, stage-accepted}
 use Rattle.model.proofs.Plans.{length-keep, stage-shrinks, stage-off-cycles, stage-next, plan-next}
 use Rattle.records.proofs.Fill.{get_d_tabulate}
-use Rattle.results.specs.Fronts.{HeldFront}
+use Rattle.stages.specs.declared.StageEdges.{StageEdges}
+use Rattle.stages.specs.Stages.{HeldStage}
 use Rattle.latest.specs.Latest.{earliest_ends}
 use Rattle.prepared.specs.Ready.{Ready}
 use Rattle.present.specs.declared.Precedence.{Precedence}
@@ -26,17 +27,17 @@ use Rattle.steps.specs.declared.StepTaken.{StepTaken}
 use Rattle.steps.specs.Steps.{Here, Taken, Begun, Followed}
 
 -- where the loop stands: at a stage of the plan, with its delays, counts and times
-pub record Standing (g : Graph) (steps many : ℕ) (time source sink delay from to counts : List ℕ) (o : Precedence) (end latest : List ℕ) : Type 0 where
+pub record Standing (g : Graph) (steps : ℕ) (time : List ℕ) (stage : StageEdges) (from to counts : List ℕ) (o : Precedence) (end latest : List ℕ) : Type 0 where
   pub list : List Edge
   pub reached : Stage g steps list
-  pub held : HeldFront 256 many source sink delay list
+  pub held : HeldStage stage list
   pub ready : Ready g list from to counts
   pub ordered : Ordered g list time o
   pub timed : Timed g list end latest
 
 module _
-    {g : Graph} {time : List ℕ} {first : ℕ} {source₀ sink₀ delay₀ from₀ to₀ counts₀ : List ℕ} {o₀ : Precedence} {end₀ latest₀ : List ℕ}
-    (begun : Begun g time first source₀ sink₀ delay₀ from₀ to₀ counts₀ o₀ end₀ latest₀)
+    {g : Graph} {time : List ℕ} {first : StageEdges} {from₀ to₀ counts₀ : List ℕ} {o₀ : Precedence} {end₀ latest₀ : List ℕ}
+    (begun : Begun g time first from₀ to₀ counts₀ o₀ end₀ latest₀)
   where
     accepted : AcceptedGraph g
     accepted = begun.here.staged.graph
@@ -44,7 +45,7 @@ module _
     abbrev output : ℕ
     output = o₀.output
 
-    pub standing-first : Standing g 0 first time source₀ sink₀ delay₀ from₀ to₀ counts₀ o₀ end₀ latest₀
+    pub standing-first : Standing g 0 time first from₀ to₀ counts₀ o₀ end₀ latest₀
     standing-first = record {
       list = first_stage g;
       reached = at_first refl refl;
@@ -67,10 +68,10 @@ module _
         omega (arith, shrunk, fewer, accepted.formed.syncs_formed.few)
 
     module _
-        {steps many : ℕ} {source sink delay from to counts : List ℕ} {o : Precedence} {end latest : List ℕ}
-        (stands : Standing g steps many time source sink delay from to counts o end latest)
+        {steps : ℕ} {stage : StageEdges} {from to counts : List ℕ} {o : Precedence} {end latest : List ℕ}
+        (stands : Standing g steps time stage from to counts o end latest)
       where
-        pub here-now : Here g stands.list (length time) many source sink delay from to counts end latest
+        pub here-now : Here g stands.list (length time) stage from to counts end latest
         here-now = record {
           as_many = begun.ordered.clocked.as_many;
           staged = staged-at stands.reached;
@@ -85,8 +86,8 @@ module _
         -- ── After a step ──
 
         module _
-            {taken : StepTaken} {source' sink' delay' from' to' counts' : List ℕ}
-            (taken-now : Taken g stands.list taken source' sink' delay' from' to' counts')
+            {taken : StepTaken} {stage' : StageEdges} {from' to' counts' : List ℕ}
+            (taken-now : Taken g stands.list taken stage' from' to' counts')
           where
             next : List Edge
             next = replaced g stands.list taken.source taken.sink
@@ -108,7 +109,7 @@ module _
             pub standing-next :
                 {o' : Precedence} {end' latest' : List ℕ} → Ordered g (replaced g stands.list taken.source taken.sink) time o' →
                 Timed g (replaced g stands.list taken.source taken.sink) end' latest' →
-                Standing g (steps + 1) taken.count time source' sink' delay' from' to' counts' o' end' latest'
+                Standing g (steps + 1) time stage' from' to' counts' o' end' latest'
             unfolding next
             standing-next ordered timed = record {
               list = next;
@@ -120,13 +121,13 @@ module _
             }
 
             -- each step lowers the number of edges
-            pub fewer-edges : taken.count < many
+            pub fewer-edges : stage'.count < stage.count
             unfolding next
             fewer-edges =
                 let off = stage-off-cycles g accepted stands.reached in
                 let lower = step-lowers g stands.list next ((step_is g stands.list off next).0 taken-now.found) in
-                let before = stands.held.sources.as_many in
-                let after = taken-now.held.sources.as_many in
+                let before = stands.held.as_many in
+                let after = taken-now.held.as_many in
                 omega arith
 
         -- ── The end ──
@@ -144,14 +145,14 @@ module _
         output-there = omega (arith, begun.ordered.clocked.output_is, accepted.formed.output_below, (timed-sizes stands.timed).0)
 
         pub followed :
-            {source' sink' delay' : List ℕ} → step g stands.list ≡ none → HeldFront 256 many source' sink' delay' stands.list →
-            Followed g (record { count = many; steps = steps; latency = get_or end output 0 }) source' sink' delay'
+            {stage' : StageEdges} → step g stands.list ≡ none → HeldStage stage' stands.list →
+            Followed g (record { steps = steps; latency = get_or end output 0 }) stage'
         unfolding plan_latency
-        followed {source'} {sink'} {delay'} over held =
+        followed {stage'} over held =
             let found : plan_of g ≡ record { list = stands.list; steps = steps }
             = plan-next g accepted steps stands.list stands.reached over in
             record {
               steps = ap (λ (p : Planned). p.steps) (sym found);
               latency = latency_is ∙ ap (λ (p : Planned). latency_of (result g p.list)) (sym found);
-              held = subst (λ (p : Planned). HeldFront 256 many source' sink' delay' p.list) (sym found) held;
+              held = subst (λ (p : Planned). HeldStage stage' p.list) (sym found) held;
             }

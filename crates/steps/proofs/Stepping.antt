@@ -4,30 +4,30 @@ use mathlib.Core.Path.{◌≡◌, sym, ap, ◌∙◌, subst}
 use mathlib.Core.Bool.{Bool, not}
 use mathlib.Core.List.{List}
 use mathlib.Core.Option.{none, some}
-use Prim.Native.Nat.{ℕ, ◌+◌, ◌-◌, ◌*◌, ◌≤◌, ◌<◌}
-use native.Mathlib.Nat.{sub-zero}
+use Prim.Native.Nat.{ℕ, ◌+◌, ◌*◌, ◌≤◌, ◌<◌}
 use native.Mathlib.Omega.{arith}
 use lib.Dec.{leb}
-use lib.ListN.{length, take}
+use lib.ListN.{length, take, length-take}
 use Rattle.model.specs.Lists.{keep}
 use Rattle.model.specs.Tasks.{Edge, ◌∈◌, Ends}
 use Rattle.model.specs.Graph.{Graph, count}
 use Rattle.model.specs.Plan.{with_pair, Candidate, replaced, step}
-use Rattle.records.specs.Columns.{edges_of, at}
+use Rattle.records.specs.Columns.{at, edges_in}
 use Rattle.subsumption.specs.Subsumption.{subsumes_by, CountsOf}
 use Rattle.subsumption.proofs.Totals.{keep-equal}
 use Rattle.updates.specs.Updates.{RowsJoined}
 use Rattle.candidates.specs.Candidates.{worth_in, BestPair, NoPair}
-use Rattle.results.specs.Fronts.{HeldFront}
-use Rattle.results.proofs.Fronts.{held-edges}
+use Rattle.stages.specs.declared.StageEdges.{StageEdges}
+use Rattle.stages.specs.Stages.{HeldStage}
+use Rattle.stages.proofs.Staged.{stage-edges}
 use Rattle.prepared.specs.Ready.{Ready}
 use Rattle.present.proofs.Ordering.{timed-sizes}
 use Rattle.steps.specs.Steps.{Here}
 use Rattle.steps.proofs.Worths.{replaced-by, best-taken, best_none, best-room, best-candidate, ready-next}
 
 module _
-    {g : Graph} {list : List Edge} {tasks many : ℕ} {source sink delay from to counts end latest : List ℕ}
-    (here : Here g list tasks many source sink delay from to counts end latest)
+    {g : Graph} {list : List Edge} {tasks : ℕ} {stage : StageEdges} {from to counts end latest : List ℕ}
+    (here : Here g list tasks stage from to counts end latest)
   where
     few : tasks ≤ 64
     few = omega (arith, here.as_many, here.staged.graph.formed.at_most_64)
@@ -45,10 +45,13 @@ module _
     -- ── The stage, as it is lent ──
 
     abbrev pub lent : List Edge
-    lent = edges_of (take (many - 0) source) (take (many - 0) sink) (take (many - 0) delay)
+    lent = edges_in (take stage.count stage.edges)
 
     lent_is : lent ≡ list
-    lent_is = (λ i. edges_of (take (sub-zero many i) source) (take (sub-zero many i) sink) (take (sub-zero many i) delay)) ∙ held-edges here.held
+    lent_is = stage-edges here.held
+
+    pub lent-few : length (take stage.count stage.edges) ≤ 256
+    lent-few = omega (arith, length-take stage.count stage.edges, here.held.few)
 
     list-ends : Ends tasks list
     list-ends = subst (λ (n : ℕ). Ends n list) (sym here.as_many) here.staged.formed.ends
@@ -105,7 +108,7 @@ module _
           same_left : keep test' list ≡ keep test list
           same_left = keep-equal test' test list same_test
 
-          pub replace-given : (list' : List Edge) × HeldFront 256 many source sink delay list' × Ends tasks list' × (length (keep test' list') < 256)
+          pub replace-given : (list' : List Edge) × HeldStage stage list' × Ends tasks list' × (length (keep test' list') < 256)
           unfolding test
           replace-given = (
             list,
@@ -122,10 +125,9 @@ module _
               (best-is.sink_below two)
 
           pub next-held :
-              {n : ℕ} {source' sink' delay' : List ℕ} → HeldFront 256 n source' sink' delay' (with_pair (keep test' list) a b) →
-              HeldFront 256 n source' sink' delay' (replaced g list a b)
-          next-held {n} {source'} {sink'} {delay'} =
-              subst (λ (es : List Edge). HeldFront 256 n source' sink' delay' es) (ap (λ (es : List Edge). with_pair es a b) same_left ∙ is-replaced)
+              {stage' : StageEdges} → HeldStage stage' (with_pair (keep test' list) a b) → HeldStage stage' (replaced g list a b)
+          next-held {stage'} =
+              subst (λ (es : List Edge). HeldStage stage' es) (ap (λ (es : List Edge). with_pair es a b) same_left ∙ is-replaced)
 
           pub next-ready :
               {counts' : List ℕ} → CountsOf tasks from' to' (with_pair (keep (λ e. not (subsumes_by from to a b e)) lent) a b) counts' →

@@ -5,21 +5,22 @@ use mathlib.Core.Bool.{Bool, true, false}
 use mathlib.Core.List.Memᴰ.{head as here}
 use mathlib.Core.List.Memᴰ.{tail as there}
 use mathlib.Core.List.{List, [], ◌∷◌, ◌++◌}
-use Prim.Native.Nat.{ℕ, zero, suc, ◌+◌, ◌-◌, ◌*◌, ◌≤◌, ◌<◌}
-use native.Mathlib.Nat.{le_refl, zero-add, suc-add}
+use Prim.Native.Nat.{ℕ, ◌+◌, ◌*◌, ◌≤◌, ◌<◌}
+use native.Mathlib.Nat.{zero-add}
 use native.Mathlib.Numerals.{add-one}
 use native.Mathlib.Omega.{arith}
 use lib.Dec.{leb}
-use lib.ListN.{length}
+use lib.ListN.{length, get_or, take, drop}
+use lib.Seq.{take-length}
+use Rattle.std.proofs.lemmas.List.{map_more, map-append, take-append-drop, length-map, length-drop, length-take-le}
 use borrow.Author.Tests.{le-leb, lt-leb}
-use Rattle.model.specs.Lists.{put, keep, counted, tabulate}
+use Rattle.model.specs.Lists.{put, keep, counted}
 use Rattle.model.specs.Tasks.{Edge, ◌∈◌, edge}
 use Rattle.model.proofs.Basics.{order}
 use Rattle.model.proofs.Plans.{length-keep}
-use Rattle.records.specs.Columns.{at, held_edge}
-use Rattle.records.proofs.Fill.{length-tabulate}
+use Rattle.layout.specs.declared.EdgeRecord.{EdgeRecord}
+use Rattle.records.specs.Columns.{at, edge_of, edges_in, no_record}
 use Rattle.subsumption.specs.Subsumption.{subsumes_by, row_at, share, CountsOf, SameTests, Covered, EdgeShifted}
-use Rattle.subsumption.proofs.Shifts.{counted-few}
 
 -- ── One element more ──
 
@@ -28,11 +29,16 @@ unfolding put counted
 kept_by true x xs = sym (add-one (length xs))
 kept_by false x xs = omega arith
 
+-- of two lists
+kept-append : {A : Type 0} (t : A → Bool) (xs ys : List A) → length (keep t (xs ++ ys)) ≡ length (keep t xs) + length (keep t ys)
+unfolding keep
+kept-append t [] ys = sym (zero-add (length (keep t ys)))
+kept-append t (x ∷ xs) ys = omega (arith, kept_by (t x) x (keep t (xs ++ ys)), kept_by (t x) x (keep t xs), kept-append t xs ys)
+
 -- at the end of a list, one that passes or does not
 kept_more : {A : Type 0} (t : A → Bool) (xs : List A) (x : A) → length (keep t (xs ++ (x ∷ []))) ≡ length (keep t xs) + counted (t x) 1
 unfolding keep
-kept_more t [] x = kept_by (t x) x []
-kept_more t (y ∷ ys) x = omega (arith, kept_by (t y) y (keep t (ys ++ (x ∷ []))), kept_by (t y) y (keep t ys), kept_more t ys x)
+kept_more t xs x = omega (arith, kept-append t xs (x ∷ []), kept_by (t x) x [])
 
 keep_append : {A : Type 0} (t : A → Bool) (xs : List A) (x : A) → keep t (xs ++ (x ∷ [])) ≡ keep t xs ++ put (t x) x []
 unfolding keep put
@@ -160,127 +166,117 @@ module _ {tasks : ℕ} {from to : List ℕ} {es : List Edge} {counts : List ℕ}
         );
   }
 
-module _ (source sink delay : List ℕ) where
+module _ (rs : List EdgeRecord) where
   abbrev first : ℕ → List Edge
-  first j = tabulate j (held_edge source sink delay)
+  first j = edges_in (take j rs)
 
-  abbrev s : ℕ → ℕ
-  s j = at source j
+  abbrev r : ℕ → EdgeRecord
+  r j = get_or rs j no_record
 
-  abbrev t : ℕ → ℕ
-  t j = at sink j
+  first_more : (u : Edge → Bool) (j : ℕ) → j < length rs → length (keep u (first (j + 1))) ≡ length (keep u (first j)) + counted (u (edge_of (r j))) 1
+  first_more u j l = ap (λ (es : List Edge). length (keep u es)) (map_more edge_of rs j no_record l) ∙ kept_more u (first j) (edge_of (r j))
 
-  abbrev d : ℕ → ℕ
-  d j = at delay j
-
-  -- so many edges at most count for a pair
-  first-few : (u : Edge → Bool) (j : ℕ) → length (keep u (first j)) ≤ j
-  first-few u j = omega (arith, length-keep u (first j), length-tabulate j (held_edge source sink delay))
-
-  first_more : (u : Edge → Bool) (j : ℕ) → length (keep u (first (j + 1))) ≡ length (keep u (first j)) + counted (u (edge (s j) (t j) (d j))) 1
-  unfolding tabulate held_edge at
-  first_more u j = ap (λ (k : ℕ). length (keep u (first k))) (add-one j) ∙ kept_more u (first j) (held_edge source sink delay j)
+  -- so many of the first j edges and of those behind them
+  first-rest : (u : Edge → Bool) (j : ℕ) → length (keep u (edges_in rs)) ≡ length (keep u (first j)) + length (keep u (edges_in (drop j rs)))
+  first-rest u j =
+      ap (λ (xs : List EdgeRecord). length (keep u (edges_in xs))) (sym (take-append-drop j rs)) ∙
+      (ap (λ (es : List Edge). length (keep u es)) (map-append edge_of (take j rs) (drop j rs)) ∙ kept-append u (first j) (edges_in (drop j rs)))
 
   module _ (tasks : ℕ) (from to : List ℕ) where
     pub first-none : {counts : List ℕ} → tasks * 64 ≤ length counts → ((i : ℕ) → at counts i ≡ 0) → CountsOf tasks from to (first 0) counts
-    unfolding tabulate keep
+    unfolding keep
     first-none size zeros = record { size = size; each = λ a b l m. zeros (a * 64 + b) }
 
     pub first_counted :
-        (j : ℕ) {counts after : List ℕ} → CountsOf tasks from to (first j) counts
-        → EdgeShifted (row_at from (s j)) (row_at to (t j)) (row_at from (s j)) (row_at to (t j)) 0 (d j + 1) tasks counts after
+        (j : ℕ) {counts after : List ℕ} → j < length rs → CountsOf tasks from to (first j) counts
+        → EdgeShifted (row_at from (r j).source) (row_at to (r j).sink) (row_at from (r j).source) (row_at to (r j).sink) 0 ((r j).delay + 1) tasks counts after
         → CountsOf tasks from to (first (j + 1)) after
-    unfolding tabulate held_edge at
-    first_counted j {counts} {after} held shifted =
-        subst (λ (k : ℕ). CountsOf tasks from to (first k) after) (sym (add-one j)) (counts-more held (s j) (t j) (d j) shifted)
+    unfolding edge_of
+    first_counted j {counts} {after} l held shifted =
+        subst (λ (es : List Edge). CountsOf tasks from to es after) (sym (map_more edge_of rs j no_record l))
+        (counts-more held (r j).source (r j).sink (r j).delay shifted)
 
   -- ── The counts of one stage, changed to those of the next ──
 
-  module _ (tasks : ℕ) (from to from' to' : List ℕ) (stays : Edge → Bool) (n : ℕ) where
+  module _ (tasks : ℕ) (from to from' to' : List ℕ) (stays : Edge → Bool) where
     -- the first j edges are counted anew
     pub record Changed (j : ℕ) (counts : List ℕ) : Type 0 where
       pub size : tasks * 64 ≤ length counts
       pub each : (a b : ℕ) → a < tasks → b < 64 →
           at counts (a * 64 + b) + length (keep (subsumes_by from to a b) (first j)) ≡
-          length (keep (subsumes_by from to a b) (first n)) + length (keep (subsumes_by from' to' a b) (keep stays (first j)))
+          length (keep (subsumes_by from to a b) (edges_in rs)) + length (keep (subsumes_by from' to' a b) (keep stays (first j)))
 
-    pub changed-none : {counts : List ℕ} → CountsOf tasks from to (first n) counts → Changed 0 counts
-    unfolding tabulate keep
+    pub changed-none : {counts : List ℕ} → CountsOf tasks from to (edges_in rs) counts → Changed 0 counts
+    unfolding keep
     changed-none held = record { size = held.size; each = λ a b l m. omega (arith, held.each a b l m) }
 
-    -- what the edges from j on add
-    later-least : (u : Edge → Bool) (j k : ℕ) → length (keep u (first j)) ≤ length (keep u (first (k + j)))
-    unfolding tabulate
-    later-least u j zero =
-        subst (λ (m : ℕ). length (keep u (first j)) ≤ length (keep u (first m))) (sym (zero-add j)) (le_refl (length (keep u (first j))))
-    later-least u j (suc k) =
-        let more = kept_more u (first (k + j)) (held_edge source sink delay (k + j)) in
-        let next : length (keep u (first (suc k + j))) ≡ length (keep u (first (suc (k + j)))) = ap (λ (m : ℕ). length (keep u (first m))) (suc-add k j) in
-        omega (arith, later-least u j k, more, next)
-
-    later-most : (u : Edge → Bool) (j k : ℕ) → length (keep u (first (k + j))) ≤ length (keep u (first j)) + k
-    unfolding tabulate
-    later-most u j zero =
-        let same : length (keep u (first (zero + j))) ≡ length (keep u (first j)) = ap (λ (m : ℕ). length (keep u (first m))) (zero-add j) in
-        omega (arith, same)
-    later-most u j (suc k) =
-        let more = kept_more u (first (k + j)) (held_edge source sink delay (k + j)) in
-        let one = counted-few (u (held_edge source sink delay (k + j))) 1 in
-        let next : length (keep u (first (suc k + j))) ≡ length (keep u (first (suc (k + j)))) = ap (λ (m : ℕ). length (keep u (first m))) (suc-add k j) in
-        omega (arith, later-most u j k, more, one, next)
-
-    module _ {j : ℕ} {counts : List ℕ} (held : Changed j counts) where
-      pub changed-covered : n ≤ 256 → j < n → Covered (row_at from (s j)) (row_at to (t j)) (d j + 1) tasks counts
-      changed-covered few below a b l m = (enough, small)
+    module _ {j : ℕ} {counts : List ℕ} (below : j < length rs) (held : Changed j counts) where
+      pub changed-covered : length rs ≤ 256 → Covered (row_at from (r j).source) (row_at to (r j).sink) ((r j).delay + 1) tasks counts
+      unfolding edge_of
+      changed-covered few a b l m = (enough, small)
         where
           u : Edge → Bool
           u = subsumes_by from to a b
 
-          up : n - (j + 1) + (j + 1) ≡ n
-          up = omega arith
-
-          on : n - j + j ≡ n
-          on = omega arith
-
-          enough : share (row_at from (s j) a) (row_at to (t j) b) (d j + 1) ≤ at counts (a * 64 + b)
+          enough : share (row_at from (r j).source a) (row_at to (r j).sink b) ((r j).delay + 1) ≤ at counts (a * 64 + b)
           enough =
-              let all = subst (λ (k : ℕ). length (keep u (first (j + 1))) ≤ length (keep u (first k))) up (later-least u (j + 1) (n - (j + 1))) in
-              omega (arith, share-is from to (s j) (t j) (d j) a b, first_more u j, all, held.each a b l m)
+              omega (arith, share-is from to (r j).source (r j).sink (r j).delay a b, first_more u j below, first-rest u (j + 1), held.each a b l m)
 
           small : at counts (a * 64 + b) ≤ 256
           small =
-              let all = subst (λ (k : ℕ). length (keep u (first k)) ≤ length (keep u (first j)) + (n - j)) on (later-most u j (n - j)) in
+              let rest = length-keep u (edges_in (drop j rs)) in
               let kept = length-keep (subsumes_by from' to' a b) (keep stays (first j)) in
-              omega (arith, held.each a b l m, all, kept, first-few stays j)
+              let stayed = length-keep stays (first j) in
+              omega (
+                arith,
+                held.each a b l m,
+                first-rest u j,
+                rest,
+                length-map (drop j rs) edge_of,
+                length-drop j rs,
+                kept,
+                stayed,
+                length-map (take j rs) edge_of,
+                length-take-le j rs (omega arith),
+              )
 
       pub changed-more : {after : List ℕ}
-          → EdgeShifted (row_at from (s j)) (row_at to (t j)) (row_at from' (s j)) (row_at to' (t j)) (d j + 1)
-          (counted (stays (edge (s j) (t j) (d j))) (d j + 1)) tasks counts after
+          → EdgeShifted (row_at from (r j).source) (row_at to (r j).sink) (row_at from' (r j).source) (row_at to' (r j).sink) ((r j).delay + 1)
+          (counted (stays (edge_of (r j))) ((r j).delay + 1)) tasks counts after
           → Changed (j + 1) after
-      unfolding tabulate held_edge at
+      unfolding edge_of
       changed-more {after} shifted = record { size = omega (arith, shifted.size, held.size); each = next }
         where
           twice : (a b : ℕ) →
               length (keep (subsumes_by from' to' a b) (keep stays (first (j + 1)))) ≡
               length (keep (subsumes_by from' to' a b) (keep stays (first j))) +
-              counted (stays (edge (s j) (t j) (d j))) (counted (subsumes_by from' to' a b (edge (s j) (t j) (d j))) 1)
+              counted (stays (edge_of (r j))) (counted (subsumes_by from' to' a b (edge_of (r j))) 1)
           twice a b =
-              ap (λ (k : ℕ). length (keep (subsumes_by from' to' a b) (keep stays (first k)))) (add-one j) ∙
-              twice-more (subsumes_by from' to' a b) stays (first j) (held_edge source sink delay j)
+              ap (λ (es : List Edge). length (keep (subsumes_by from' to' a b) (keep stays es))) (map_more edge_of rs j no_record below) ∙
+              twice-more (subsumes_by from' to' a b) stays (first j) (edge_of (r j))
 
           next : (a b : ℕ) → a < tasks → b < 64 →
               at after (a * 64 + b) + length (keep (subsumes_by from to a b) (first (j + 1))) ≡
-              length (keep (subsumes_by from to a b) (first n)) + length (keep (subsumes_by from' to' a b) (keep stays (first (j + 1))))
+              length (keep (subsumes_by from to a b) (edges_in rs)) + length (keep (subsumes_by from' to' a b) (keep stays (first (j + 1))))
           next a b l m =
               omega (
                 arith,
                 shifted.inside a b l m,
                 held.each a b l m,
-                share-is from to (s j) (t j) (d j) a b,
-                share-if from' to' (s j) (t j) (d j) a b (stays (edge (s j) (t j) (d j))),
-                first_more (subsumes_by from to a b) j,
+                share-is from to (r j).source (r j).sink (r j).delay a b,
+                share-if from' to' (r j).source (r j).sink (r j).delay a b (stays (edge_of (r j))),
+                first_more (subsumes_by from to a b) j below,
                 twice a b,
               )
 
-    pub changed-all : {counts : List ℕ} → Changed n counts → CountsOf tasks from' to' (keep stays (first n)) counts
-    changed-all held = record { size = held.size; each = λ a b l m. omega (arith, held.each a b l m) }
+    pub changed-all : {counts : List ℕ} → Changed (length rs) counts → CountsOf tasks from' to' (keep stays (edges_in rs)) counts
+    changed-all held = record {
+      size = held.size;
+      each = λ a b l m.
+          omega (
+            arith,
+            held.each a b l m,
+            ap (λ (xs : List EdgeRecord). length (keep (subsumes_by from to a b) (edges_in xs))) (take-length rs),
+            ap (λ (xs : List EdgeRecord). length (keep (subsumes_by from' to' a b) (keep stays (edges_in xs)))) (take-length rs),
+          );
+    }

@@ -7,13 +7,14 @@
 
 ghost use Rattle.std.specs.Prelude.{◌≡◌, true, false, not, List, ℕ, ◌+◌, ◌-◌, ◌*◌, ◌≤◌, ◌<◌, leb, length};
 ghost use Rattle.model.specs.Lists.{counted, keep};
-ghost use Rattle.model.specs.Tasks.{Ends, edge};
+ghost use Rattle.model.specs.Tasks.{Ends};
 ghost use Rattle.model.specs.Plan.{with_pair};
-ghost use Rattle.records.specs.Columns.{at, edges_of};
+ghost use Rattle.records.specs.Columns.{at, edge_of, edges_in};
 ghost use Rattle.updates.specs.Updates.{Small, lower_at, Lowers, RowsJoined};
 ghost use Rattle.subsumption.specs.Subsumption.{subsumes_by, row_at, Still, LeftRow, BelowRow, RowShifted, EdgeShifted, Covered, SameTests, CountsOf};
 
 use delays::WIDTH;
+use layout::EdgeRecord;
 use updates::{join_rows, lowered};
 
 // The delays between the tasks of a stage, row by row.
@@ -22,14 +23,6 @@ struct Delays<'a> {
     from: &'a [u16],
     to: &'a [u16],
     tasks: usize,
-}
-
-// An edge of a stage.
-#[derive(Clone, Copy)]
-struct StageEdge {
-    source: u8,
-    sink: u8,
-    delay: u8,
 }
 
 // What an edge is counted by: a row of delays from its source, a row of delays to its sink and a limit. It is not counted by a limit of 0.
@@ -63,29 +56,21 @@ fn both_above(most: u16, x: u16, y: u16) -> bool
 }
 
 // Whether the pair (a, b) subsumes an edge.
-pub fn is_subsumed<'a>(
-    from: &'a [u16],
-    to: &'a [u16],
-    a: usize,
-    b: usize,
-    source: u8,
-    sink: u8,
-    delay: u8,
-) -> bool
-    requires { (a < 64) × (b < 64) × (source * 64 + a < length from.now) × (sink * 64 + b < length to.now) }
-    ensures { result ≡ subsumes_by from.now to.now a b (edge source sink delay) }
+pub fn is_subsumed<'a>(from: &'a [u16], to: &'a [u16], a: usize, b: usize, e: EdgeRecord) -> bool
+    requires { (a < 64) × (b < 64) × (e.source * 64 + a < length from.now) × (e.sink * 64 + b < length to.now) }
+    ensures { result ≡ subsumes_by from.now to.now a b (edge_of e) }
 {
-    let before = from[source as usize * WIDTH + a] as u32;
-    let after = to[sink as usize * WIDTH + b] as u32;
-    before + after <= delay as u32
+    let before = from[e.source as usize * WIDTH + a] as u32;
+    let after = to[e.sink as usize * WIDTH + b] as u32;
+    before + after <= e.delay as u32
 }
 
 // The limit of an edge when the pair (a, b) is added: 0 if the pair subsumes it.
-fn limit_after<'a>(before: Delays<'a>, a: usize, b: usize, e: StageEdge) -> u16
+fn limit_after<'a>(before: Delays<'a>, a: usize, b: usize, e: EdgeRecord) -> u16
     requires { (a < 64) × (b < 64) × (e.source * 64 + a < length before.from.now) × (e.sink * 64 + b < length before.to.now) }
-    ensures { result ≡ counted (not (subsumes_by before.entry.from.now before.entry.to.now a b (edge e.source e.sink e.delay))) (e.delay + 1) }
+    ensures { result ≡ counted (not (subsumes_by before.entry.from.now before.entry.to.now a b (edge_of e))) (e.delay + 1) }
 {
-    if is_subsumed(before.from, before.to, a, b, e.source, e.sink, e.delay) {
+    if is_subsumed(before.from, before.to, a, b, e) {
         0
     } else {
         e.delay as u16 + 1
@@ -191,34 +176,32 @@ fn count_edge<'a>(delays: Delays<'a>, source: usize, sink: usize, limit: u16, co
 
 // Counts the edges of a stage, by counts of 0.
 pub fn count_edges<'a>(
-    source: &'a [u8],
-    sink: &'a [u8],
-    delay: &'a [u8],
+    edges: &'a [EdgeRecord],
     from: &'a [u16],
     to: &'a [u16],
     tasks: usize,
     counts: &mut [u16],
 )
-    requires sink_len { (length sink.now ≡ length source.now) × (length delay.now ≡ length source.now) × (length source.now ≤ 256) }
+    requires edges_bound { length edges.now ≤ 256 }
     requires tasks_in_bounds { (tasks * 64 ≤ length from.now) × (tasks * 64 ≤ length to.now) × (tasks * 64 ≤ length counts.old) }
-    requires tasks_bound { (tasks ≤ 64) × Ends tasks (edges_of source.now sink.now delay.now) }
+    requires tasks_bound { (tasks ≤ 64) × Ends tasks (edges_in edges.now) }
     requires small { Small to.now × ((i : ℕ) → at counts.old i ≡ 0) }
-    ensures { CountsOf tasks from.now to.now (edges_of source.now sink.now delay.now) counts.new }
+    ensures { CountsOf tasks from.now to.now (edges_in edges.now) counts.new }
 {
     let delays = Delays { from, to, tasks };
-    for j in 0..source.len() {
-        let limit = delay[j] as u16 + 1;
-        count_edge(delays, source[j] as usize, sink[j] as usize, limit, counts);
+    for e in edges {
+        let limit = e.delay as u16 + 1;
+        count_edge(delays, e.source as usize, e.sink as usize, limit, counts);
     }
 }
 
 // Counts one edge anew for the pair (a, b) that is added, by the delays before it and its source's and sink's rows of those after it: no more if the pair
 // subsumes it. It is passed over if no delay that matters to it falls: none does where the ways to the pair are longer than the edge's delay.
-fn shift_one<'a>(before: Delays<'a>, a: usize, b: usize, e: StageEdge, counts: &mut [u16])
+fn shift_one<'a>(before: Delays<'a>, a: usize, b: usize, e: EdgeRecord, counts: &mut [u16])
     requires tasks_in_bounds { (before.tasks * 64 ≤ length before.from.now) × (before.tasks * 64 ≤ length before.to.now) × (before.tasks * 64 ≤ length counts.old) × Small before.from.now × Small before.to.now }
     requires tasks_bound { (before.tasks ≤ 64) × (a < before.tasks) × (b < before.tasks) × (e.source < before.tasks) × (e.sink < before.tasks) }
     requires covered { Covered (row_at before.from.now e.source) (row_at before.to.now e.sink) (e.delay + 1) before.tasks counts.old }
-    ensures { EdgeShifted (row_at before.entry.from.now e.source) (row_at before.entry.to.now e.sink) (lower_at a b before.entry.from.now e.source) (lower_at b a before.entry.to.now e.sink) (e.delay + 1) (counted (not (subsumes_by before.entry.from.now before.entry.to.now a b (edge e.source e.sink e.delay))) (e.delay + 1)) before.entry.tasks counts.old counts.new }
+    ensures { EdgeShifted (row_at before.entry.from.now e.source) (row_at before.entry.to.now e.sink) (lower_at a b before.entry.from.now e.source) (lower_at b a before.entry.to.now e.sink) (e.delay + 1) (counted (not (subsumes_by before.entry.from.now before.entry.to.now a b (edge_of e))) (e.delay + 1)) before.entry.tasks counts.old counts.new }
 {
     let most = e.delay as u16;
     let s = e.source as usize * WIDTH;
@@ -249,36 +232,27 @@ fn shift_one<'a>(before: Delays<'a>, a: usize, b: usize, e: StageEdge, counts: &
 
 // Counts the edges of a stage anew for the pair (a, b) that is added: by the delays before it, those that it leaves are counted by the delays after it.
 fn shift_edges<'a>(
-    source: &'a [u8],
-    sink: &'a [u8],
-    delay: &'a [u8],
+    edges: &'a [EdgeRecord],
     before: Delays<'a>,
     a: usize,
     b: usize,
     counts: &mut [u16],
 )
-    requires sink_len { (length sink.now ≡ length source.now) × (length delay.now ≡ length source.now) × (length source.now ≤ 256) }
+    requires edges_bound { length edges.now ≤ 256 }
     requires tasks_in_bounds { (before.tasks * 64 ≤ length before.from.now) × (before.tasks * 64 ≤ length before.to.now) × Small before.from.now × Small before.to.now }
-    requires tasks_bound { (before.tasks ≤ 64) × (a < before.tasks) × (b < before.tasks) × Ends before.tasks (edges_of source.now sink.now delay.now) }
-    requires counts_of { CountsOf before.tasks before.from.now before.to.now (edges_of source.now sink.now delay.now) counts.old }
-    ensures { (from' to' : List ℕ) → Lowers a b before.entry.tasks before.entry.from.now from' → Lowers b a before.entry.tasks before.entry.to.now to' → CountsOf before.entry.tasks from' to' (keep (λ e. not (subsumes_by before.entry.from.now before.entry.to.now a b e)) (edges_of source.now sink.now delay.now)) counts.new }
+    requires tasks_bound { (before.tasks ≤ 64) × (a < before.tasks) × (b < before.tasks) × Ends before.tasks (edges_in edges.now) }
+    requires counts_of { CountsOf before.tasks before.from.now before.to.now (edges_in edges.now) counts.old }
+    ensures { (from' to' : List ℕ) → Lowers a b before.entry.tasks before.entry.from.now from' → Lowers b a before.entry.tasks before.entry.to.now to' → CountsOf before.entry.tasks from' to' (keep (λ e. not (subsumes_by before.entry.from.now before.entry.to.now a b e)) (edges_in edges.now)) counts.new }
 {
-    for j in 0..source.len() {
-        let e = StageEdge {
-            source: source[j],
-            sink: sink[j],
-            delay: delay[j],
-        };
-        shift_one(before, a, b, e, counts);
+    for e in edges {
+        shift_one(before, a, b, *e, counts);
     }
 }
 
 // Adds the pair (a, b) to delays and counts of a stage: what the pair subsumes is dropped, delays fall to the way to a and the way from b on, and the pair's
 // own edge is counted last.
 pub fn add_pair<'a, 'b>(
-    source: &'a [u8],
-    sink: &'a [u8],
-    delay: &'a [u8],
+    edges: &'a [EdgeRecord],
     tasks: usize,
     a: usize,
     b: usize,
@@ -286,15 +260,15 @@ pub fn add_pair<'a, 'b>(
     to: &'b mut [u16],
     counts: &'b mut [u16],
 )
-    requires sink_len { (length sink.now ≡ length source.now) × (length delay.now ≡ length source.now) × (length source.now ≤ 256) }
+    requires edges_bound { length edges.now ≤ 256 }
     requires tasks_in_bounds { (tasks * 64 ≤ length from.old) × (tasks * 64 ≤ length to.old) × Small from.old × Small to.old }
-    requires tasks_bound { (tasks ≤ 64) × (a < tasks) × (b < tasks) × Ends tasks (edges_of source.now sink.now delay.now) }
-    requires counts_of { CountsOf tasks from.old to.old (edges_of source.now sink.now delay.now) counts.old }
+    requires tasks_bound { (tasks ≤ 64) × (a < tasks) × (b < tasks) × Ends tasks (edges_in edges.now) }
+    requires counts_of { CountsOf tasks from.old to.old (edges_in edges.now) counts.old }
     ensures delays { RowsJoined a b tasks from.old from.new × RowsJoined b a tasks to.old to.new }
-    ensures counts { CountsOf tasks from.new to.new (with_pair (keep (λ e. not (subsumes_by from.old to.old a b e)) (edges_of source.now sink.now delay.now)) a b) counts.new }
+    ensures counts { CountsOf tasks from.new to.new (with_pair (keep (λ e. not (subsumes_by from.old to.old a b e)) (edges_in edges.now)) a b) counts.new }
 {
     let before = Delays { from, to, tasks };
-    shift_edges(source, sink, delay, before, a, b, counts);
+    shift_edges(edges, before, a, b, counts);
     join_rows(from, tasks, a, b);
     join_rows(to, tasks, b, a);
     count_edge(Delays { from, to, tasks }, a, b, 1, counts);

@@ -1,11 +1,13 @@
 -- `first_stage::first_stage` meets its contract: the table and the marks are those of the edges that the lists hold, and the needed ones among those behind
 -- the processors' are the first stage.
-use mathlib.Core.Path.{refl, sym, ap, ◌∙◌}
+use mathlib.Core.Path.{refl, sym, ap, subst, ◌∙◌}
+use mathlib.Core.List.{List}
 use native.Mathlib.Omega.{arith}
 use lib.ListN.{length}
+use Rattle.model.specs.Tasks.{Edge}
 use Rattle.records.specs.Columns.{edges_of}
 use Rattle.delays.proofs.Table.{table-length, table-front}
-use Rattle.results.proofs.Fronts.{held_same}
+use Rattle.stages.specs.Stages.{HeldStage}
 use Rattle.first_stage.proofs.Given.{part_length, part-ends, first-is}
 use Rattle.first_stage.proofs.first_stage.Goals as goal
 
@@ -41,6 +43,6 @@ returns c =
     let front = table-front args.tasks es _ written in
     let stage = first-is args.tasks source sink delay size.1 asked.sink_len.0 asked.sink_len.1 size.2 c.redundant_marks-marks.ensures in
     record {
-      stage = held_same (c.keep_needed.ensures es asked.fit front) (sym stage) refl refl refl refl;
+      stage = subst (λ (xs : List Edge). HeldStage c.keep_needed.result xs) stage (c.keep_needed.ensures es asked.fit front);
       table = written;
     }

@@ -1,5 +1,5 @@
--- `first_stage::keep_needed` meets its contract: after j steps the lists hold those of the first j edges that are needed, at most j.
-use mathlib.Core.Path.{◌≡◌, refl, sym, ap, ◌∙◌}
+-- `first_stage::keep_needed` meets its contract: after j steps the stage holds those of the first j edges that are needed, at most j.
+use mathlib.Core.Path.{◌≡◌, refl, sym, ap, subst, ◌∙◌}
 use mathlib.Core.Bool.{Bool, true, false, not, ◌&&◌}
 use mathlib.Core.List.{List}
 use Prim.Native.Nat.{ℕ}
@@ -8,10 +8,12 @@ use lib.ListN.{length, get_or}
 use Rattle.model.specs.Lists.{keep_places, tabulate}
 use Rattle.model.specs.Tasks.{Edge}
 use Rattle.model.specs.Compute.{present, least_delay}
-use Rattle.records.specs.Columns.{held_edge}
+use Rattle.records.specs.Columns.{held_edge, edge_of}
 use Rattle.records.proofs.Edges.{edge_in_lem}
 use Rattle.marks.specs.Marks.{mark_at}
-use Rattle.results.proofs.Fronts.{held_none, held_more, held_same, stored-room}
+use Rattle.stages.specs.declared.StageEdges.{StageEdges}
+use Rattle.stages.specs.Stages.{HeldStage}
+use Rattle.stages.proofs.Staged.{stage_more}
 use Rattle.first_stage.proofs.Needing.{passes, marked-fails, needed-more, needed-same, needed-all}
 use Rattle.first_stage.proofs.keep_needed.Goals as goal
 use Rattle.first_stage.proofs.keep_needed.Goals.{then-not-is_marked+then-not-has_path, else-not-is_marked, else-not-is_marked-via-then-not-is_marked+else-not-has_path, else-not-is_marked-via-else-not-is_marked}
@@ -24,7 +26,7 @@ path-test n es sink source is = sym (ap not (is ∙ (λ k. present (least_delay 
 
 pub loop-j-init : goal.loop-j-init
 unfolding tabulate keep_places
-loop-j-init c = (omega arith, refl, refl, refl, λ es fit least. held_none refl refl refl)
+loop-j-init c = (omega (arith, c.blank_stage-stage.ensures.as_many), λ es fit least. c.blank_stage-stage.ensures)
 
 pub has_path-requires : goal.has_path-requires
 unfolding held_edge
@@ -38,41 +40,31 @@ has_path-requires c =
     (asked.0, omega (arith, ends.0, ends.1), omega (arith, ends.0, ends.1), asked.2)
 
 pub loop-j-preserved : goal.loop-j-preserved
-unfolding held_edge
+unfolding held_edge edge_of
 loop-j-preserved c =
     let source = c.args.source.now in
     let sink = c.args.sink.now in
     let delay = c.args.delay.now in
     let tasks = c.args.tasks in
     let marked = mark_at c.args.marks in
-    let f = held_edge source sink delay in
-    let loop = c.loop-j in
-    let j = loop.j in
-    let inv = loop.invariant in
+    let j = c.loop-j.j in
+    let inv = c.loop-j.invariant in
     let few = c.requires.tasks_bound.1 in
     let below = c.loop-j-test.true in
     let mark = sym (ap not c.is_marked.ensures) in
     elim c.if-not-is_marked.branch [
-      | then-not-is_marked+then-not-has_path w ↦
-          let is_source = w.sources-is ∙ w.store.ensures.to_source_after in
-          let is_sink = w.sinks-is ∙ w.store.ensures.to_sink_after in
-          let is_delay = w.delays-is ∙ w.store.ensures.to_delay_after in (
-            omega (arith, w.kept-is, inv.0),
-            stored-room loop.sources loop.kept (f j).source is_source inv.1,
-            stored-room loop.sinks loop.kept (f j).sink is_sink inv.2,
-            stored-room loop.delays loop.kept (f j).delay is_delay inv.3,
-            λ es fit least.
-                let free : not (marked j) ≡ true = mark ∙ ap not w.if-not-is_marked.true in
-                let apart : not (present (least_delay tasks es (get_or sink j 0) (get_or source j 0))) ≡ true
-                = path-test tasks es w.from.ensures w.from-then-not-is_marked.ensures (w.has_path.ensures es fit least) ∙ ap not w.if-not-has_path.true in
-                held_same (held_more (f j) (inv.4 es fit least) (omega (arith, few, inv.0)))
-                (needed-more tasks es marked source sink delay j below (λ i. free i && apart i)) w.kept-is is_source is_sink is_delay,
-          )
+      | then-not-is_marked+then-not-has_path w ↦ (
+        omega (arith, ap (λ (r : StageEdges). r.count) w.stage-is, inv.0),
+        λ es fit least.
+            let free : not (marked j) ≡ true = mark ∙ ap not w.if-not-is_marked.true in
+            let apart : not (present (least_delay tasks es (get_or sink j 0) (get_or source j 0))) ≡ true
+            = path-test tasks es w.from.ensures w.from-then-not-is_marked.ensures (w.has_path.ensures es fit least) ∙ ap not w.if-not-has_path.true in
+            coe 1 0 (i. HeldStage (w.stage-is i) (needed-more tasks es marked source sink delay j below (λ k. free k && apart k) i))
+            (stage_more (inv.1 es fit least) (record { source = get_or source j 0; sink = get_or sink j 0; delay = get_or delay j 0 })
+            (omega (arith, few, inv.0)) refl refl),
+      )
       | else-not-is_marked w ↦ (
-        omega (arith, w.kept-is, inv.0),
-        ap length w.sources-is ∙ inv.1,
-        ap length w.sinks-is ∙ inv.2,
-        ap length w.delays-is ∙ inv.3,
+        omega (arith, ap (λ (r : StageEdges). r.count) w.stage-is, inv.0),
         λ es fit least.
             let fails : passes tasks es marked source sink j ≡ false
             = elim w.else-not-is_marked.branch [
@@ -83,8 +75,7 @@ loop-j-preserved c =
                   λ i. free i && back i
               | else-not-is_marked-via-else-not-is_marked v ↦ marked-fails tasks es marked source sink j (mark ∙ ap not v.if-not-is_marked.false)
             ] in
-            held_same (inv.4 es fit least) (needed-same tasks es marked source sink delay j below fails)
-            w.kept-is w.sources-is w.sinks-is w.delays-is,
+            coe 1 0 (i. HeldStage (w.stage-is i) (needed-same tasks es marked source sink delay j below fails i)) (inv.1 es fit least),
       )
     ]
 
@@ -93,7 +84,7 @@ returns c =
     let source = c.args.source.now in
     let sink = c.args.sink.now in
     let delay = c.args.delay.now in
-    let inv = c.loop-j.invariant in
     let whole : length source ≡ c.loop-j.j = omega arith in
     λ es fit least.
-    held_same (inv.4 es fit least) (needed-all c.args.tasks es (mark_at c.args.marks) source sink delay whole) refl refl refl refl
+    subst (λ (xs : List Edge). HeldStage c.loop-j.stage xs) (sym (needed-all c.args.tasks es (mark_at c.args.marks) source sink delay whole))
+    (c.loop-j.invariant.1 es fit least)

@@ -2,14 +2,13 @@
 use mathlib.Core.Path.{refl, ◌∙◌}
 use lib.ListN.{length}
 use Rattle.acceptance.specs.Outcomes.{outcome}
-use Rattle.stages.proofs.Staged.{front-few}
 use Rattle.plan.proofs.Answers.{refused-answer, passed-answer, edges_fit, list-written, list-kept}
 use Rattle.plan.proofs.plan.Goals as goal
 
 pub fill-requires : goal.fill-requires
 fill-requires c =
     let decided = c.in-Ok.ensures in
-    (edges_fit c.args.graph.now (length c.args.edges.now) decided.refusal decided.plan, front-few decided.plan.held)
+    (edges_fit c.args.graph.now (length c.args.edges.now) decided.refusal decided.plan, decided.plan.held.few)
 
 pub returns-in-Ok : goal.returns-in-Ok
 unfolding outcome

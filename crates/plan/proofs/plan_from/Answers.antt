@@ -1,11 +1,10 @@
 -- `plan::plan_from` meets its contract: the steps start from the first stage, its delays, counts and times, and lead to the plan. Lists of 4096 have room for
 -- all tasks, and are clear.
-use mathlib.Core.Path.{refl, sym}
+use mathlib.Core.Path.{refl}
 use Prim.Native.Nat.{◌*◌, ◌≤◌}
 use native.Mathlib.Omega.{arith}
 use lib.ListN.{replicate}
 use Rattle.acceptance.proofs.Readings.{graph-within, few-tasks}
-use Rattle.stages.proofs.Staged.{front-few}
 use Rattle.present.proofs.Ordering.{timed-sizes}
 use Rattle.plan.proofs.Beginning.{blank-at, row-lent, row_kept, begun}
 use Rattle.plan.proofs.plan_from.Goals as goal
@@ -15,7 +14,7 @@ prepare-requires c =
     let room : c.args.graph.tasks * 64 ≤ 4096 = omega (arith, few-tasks c.requires.accepted_reading) in
     record {
       accepted_reading = c.requires.accepted_reading;
-      held_front = c.requires.held_front;
+      held_stage = c.requires.held_stage;
       by_index = c.requires.by_index;
       tasks_in_bounds = (room, room, room);
       by_index_2 = (blank-at 4096, blank-at 4096, blank-at 4096);
@@ -37,15 +36,6 @@ first_times-order-requires c =
 pub slice_bounds-follow_steps-end : goal.slice_bounds-follow_steps-end
 slice_bounds-follow_steps-end c = (graph-within c.requires.accepted_reading).time
 
-pub slice_bounds-follow_steps-end-2 : goal.slice_bounds-follow_steps-end-2
-slice_bounds-follow_steps-end-2 c = sym c.requires.held_front.sources.room
-
-pub slice_bounds-follow_steps-end-3 : goal.slice_bounds-follow_steps-end-3
-slice_bounds-follow_steps-end-3 c = sym c.requires.held_front.sinks.room
-
-pub slice_bounds-follow_steps-end-4 : goal.slice_bounds-follow_steps-end-4
-slice_bounds-follow_steps-end-4 c = sym c.requires.held_front.delays.room
-
 pub slice_bounds-end-end-2 : goal.slice_bounds-end-end-2
 slice_bounds-end-end-2 c = row_kept c.requires.accepted_reading c.first_times-order.new.end _ (timed-sizes c.first_times-order.ensures.timed).0
 
@@ -53,13 +43,10 @@ pub slice_bounds-latest-end-2 : goal.slice_bounds-latest-end-2
 slice_bounds-latest-end-2 c = row_kept c.requires.accepted_reading c.first_times-order.new.latest _ (timed-sizes c.first_times-order.ensures.timed).1
 
 pub follow_steps-last-requires : goal.follow_steps-last-requires
-follow_steps-last-requires c = (_, (begun c.requires.accepted_reading c.first_times-order.new.end c.first_times-order.new.latest _ _ c.requires.held_front c.prepare.ensures c.first_times-order.ensures.ordered c.first_times-order.ensures.timed))
-
-pub overflow_cast-stage : goal.overflow_cast-stage
-overflow_cast-stage c = omega (arith, front-few (c.follow_steps-last.ensures _ (begun c.requires.accepted_reading c.first_times-order.new.end c.first_times-order.new.latest _ _ c.requires.held_front c.prepare.ensures c.first_times-order.ensures.ordered c.first_times-order.ensures.timed)).held)
+follow_steps-last-requires c = (_, (begun c.requires.accepted_reading c.first_times-order.new.end c.first_times-order.new.latest _ _ c.requires.held_stage c.prepare.ensures c.first_times-order.ensures.ordered c.first_times-order.ensures.timed))
 
 pub shape_of-table : goal.shape_of-table
 shape_of-table c = c.prepare.auto.table
 
 pub returns : goal.returns
-returns c = c.follow_steps-last.ensures _ (begun c.requires.accepted_reading c.first_times-order.new.end c.first_times-order.new.latest _ _ c.requires.held_front c.prepare.ensures c.first_times-order.ensures.ordered c.first_times-order.ensures.timed)
+returns c = c.follow_steps-last.ensures _ (begun c.requires.accepted_reading c.first_times-order.new.end c.first_times-order.new.latest _ _ c.requires.held_stage c.prepare.ensures c.first_times-order.ensures.ordered c.first_times-order.ensures.timed)

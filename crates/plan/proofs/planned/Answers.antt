@@ -31,4 +31,4 @@ first_stage-first-requires c =
 pub plan_from-requires : goal.plan_from-requires
 plan_from-requires c =
     let stage = c.first_stage-first.ensures in
-    record { accepted_reading = c.requires; held_front = first-held c.requires stage.stage; by_index = (_, table-held c.requires _ stage.table) }
+    record { accepted_reading = c.requires; held_stage = first-held c.requires stage.stage; by_index = (_, table-held c.requires _ stage.table) }

@@ -4,8 +4,9 @@ use native.Mathlib.Omega.{arith}
 use Prim.Native.Nat.{ℕ, ◌-◌, ◌*◌}
 use borrow.Rule.Slice.PartMut.{same_len_mid}
 use Rattle.acceptance.proofs.Readings.{graph-fronts}
+use Rattle.stages.proofs.Staged.{stage-edges}
 use Rattle.prepared.proofs.FirstReady.{first-ready}
-use Rattle.prepared.proofs.Starting.{blank-small, few-tasks, square-small, square-within, front-size, zeroed-within, counted-front, row-place, column-place, stage-few, stage-ends, many-within, lent-lists, lent_is, counts-held}
+use Rattle.prepared.proofs.Starting.{blank-small, few-tasks, square-small, square-within, front-size, zeroed-within, counted-front, row-place, column-place, lent-few, lent-ends, counts-held}
 use Rattle.prepared.proofs.prepare.Goals as goal
 
 pub overflow_mul-size : goal.overflow_mul-size
@@ -65,26 +66,19 @@ spread-requires-2 c =
     }
 
 pub slice_bounds-count_edges-end : goal.slice_bounds-count_edges-end
-slice_bounds-count_edges-end c = (many-within c.requires.held_front).0
-
-pub slice_bounds-count_edges-end-2 : goal.slice_bounds-count_edges-end-2
-slice_bounds-count_edges-end-2 c = (many-within c.requires.held_front).1
-
-pub slice_bounds-count_edges-end-3 : goal.slice_bounds-count_edges-end-3
-slice_bounds-count_edges-end-3 c = (many-within c.requires.held_front).2
+slice_bounds-count_edges-end c = omega (arith, c.requires.held_stage.few, c.requires.held_stage.room)
 
 pub count_edges-requires : goal.count_edges-requires
 count_edges-requires c =
     let graph = c.requires.accepted_reading.accepted in
     let tasks_are = (graph-fronts c.requires.accepted_reading).tasks-are in
-    let lists = lent-lists c.requires.held_front in
-    let held = lent_is c.requires.held_front in
+    let held = c.requires.held_stage in
     let by-source = c.spread.ensures in
     let by-sink = c.spread-2.ensures in
     record {
-      sink_len = (lists.0, lists.1, stage-few graph tasks_are _ _ _ held);
+      edges_bound = lent-few graph tasks_are held;
       tasks_in_bounds = (by-source.size, by-sink.size, c.requires.tasks_in_bounds.2);
-      tasks_bound = (few-tasks graph tasks_are, stage-ends graph tasks_are _ _ _ held);
+      tasks_bound = (few-tasks graph tasks_are, lent-ends graph tasks_are held);
       small = (by-sink.small, c.requires.by_index_2.2);
     }
 
@@ -100,4 +94,4 @@ returns c =
     let table = c.requires.by_index in
     let counted = counted-front graph tasks_are table.0 table.1 c.zero_diagonal.ensures _ in
     first-ready graph tasks_are counted c.spread.ensures c.spread-2.ensures
-    (counts-held (lent_is c.requires.held_front) c.count_edges.ensures)
+    (counts-held (stage-edges c.requires.held_stage) c.count_edges.ensures)

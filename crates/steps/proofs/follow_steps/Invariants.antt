@@ -7,8 +7,8 @@ use Rattle.steps.proofs.follow_steps.Given as goal
 
 abbrev pub invariant-loop-taken : goal.invariant-loop-taken
 invariant-loop-taken l =
-    (g : Graph) → Begun g l.time l.first l.initial.source l.initial.sink l.initial.delay l.initial.from l.initial.to l.initial.counts l.initial.order l.initial.end l.initial.latest →
-    Standing g l.steps l.count l.time l.source l.sink l.delay l.from l.to l.counts l.order l.end l.latest
+    (g : Graph) → Begun g l.time l.initial.stage l.initial.from l.initial.to l.initial.counts l.initial.order l.initial.end l.initial.latest →
+    Standing g l.steps l.time l.stage l.from l.to l.counts l.order l.end l.latest
 
 abbrev pub decreases-loop-taken : goal.decreases-loop-taken
-decreases-loop-taken l = l.count
+decreases-loop-taken l = l.stage.count

@@ -4,8 +4,8 @@ use mathlib.Core.Bool.{not}
 use native.Mathlib.Omega.{arith}
 use Rattle.model.specs.Plan.{with_pair, pair_edge}
 use Rattle.model.proofs.Plans.{length-keep}
-use Rattle.records.specs.Columns.{edges_of}
-use Rattle.records.proofs.Edges.{edges-length}
+use Rattle.std.proofs.lemmas.List.{length-map}
+use Rattle.records.specs.Columns.{edge_of, edges_in}
 use Rattle.subsumption.specs.Subsumption.{subsumes_by}
 use Rattle.subsumption.proofs.Totals.{counts-covered, counts-more}
 use Rattle.subsumption.proofs.add_pair.Goals as goal
@@ -17,11 +17,11 @@ count_edge-requires c =
     let columns = c.join_rows-2.ensures in
     let held = c.shift_edges.ensures _ _ rows.inside columns.inside in
     let few = c.requires.tasks_bound in
-    let kept = length-keep (λ e. not (subsumes_by args.from.now args.to.now args.a args.b e)) (edges_of args.source.now args.sink.now args.delay.now) in
-    let all = edges-length args.source.now args.sink.now args.delay.now in
+    let kept = length-keep (λ e. not (subsumes_by args.from.now args.to.now args.a args.b e)) (edges_in args.edges.now) in
+    let all = length-map args.edges.now edge_of in
     record {
       tasks_in_bounds = (omega (arith, rows.size, c.requires.tasks_in_bounds.0), omega (arith, columns.size, c.requires.tasks_in_bounds.1), held.size, columns.small);
-      tasks_bound = (few.0, few.1, few.2, omega arith, counts-covered held (omega (arith, kept, all, c.requires.sink_len.2)) args.a args.b);
+      tasks_bound = (few.0, few.1, few.2, omega arith, counts-covered held (omega (arith, kept, all, c.requires.edges_bound)) args.a args.b);
     }
 
 pub returns-clause-counts : goal.returns-clause-counts

@@ -2,13 +2,12 @@
 use mathlib.Core.Bool.{not}
 use mathlib.Core.List.{List}
 use Prim.Native.Nat.{ℕ}
-use lib.ListN.{length}
 use Rattle.updates.specs.Updates.{Lowers}
 use Rattle.subsumption.specs.Subsumption.{subsumes_by}
 use Rattle.subsumption.proofs.Totals.{Changed}
 use Rattle.subsumption.proofs.shift_edges.Given as goal
 
-abbrev pub invariant-loop-j : goal.invariant-loop-j
-invariant-loop-j l =
+abbrev pub invariant-loop-e : goal.invariant-loop-e
+invariant-loop-e l =
     ((from' to' : List ℕ) → Lowers l.a l.b l.before.tasks l.before.from.now from' → Lowers l.b l.a l.before.tasks l.before.to.now to' →
-    Changed l.source l.sink l.delay l.before.tasks l.before.from.now l.before.to.now from' to' (λ e. not (subsumes_by l.before.from.now l.before.to.now l.a l.b e)) (length l.source) l.j l.counts)
+    Changed l.edges l.before.tasks l.before.from.now l.before.to.now from' to' (λ e. not (subsumes_by l.before.from.now l.before.to.now l.a l.b e)) l.e-index l.counts)

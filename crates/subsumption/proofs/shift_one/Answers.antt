@@ -5,8 +5,7 @@ use mathlib.Core.Bool.{not}
 use Prim.Native.Nat.{◌+◌, ◌*◌, ◌≤◌}
 use native.Mathlib.Omega.{arith}
 use lib.ListN.{length}
-use Rattle.model.specs.Tasks.{edge}
-use Rattle.records.specs.Columns.{at}
+use Rattle.records.specs.Columns.{at, edge_of}
 use Rattle.updates.proofs.Rows.{row-size, row-at, row_small}
 use Rattle.subsumption.specs.Subsumption.{subsumes_by}
 use Rattle.subsumption.proofs.Shifts.{counted-few, edge-as}
@@ -15,7 +14,7 @@ use Rattle.subsumption.proofs.Fallen.{lent-covered, far-fell, lowered-fell, lowe
 use Rattle.subsumption.proofs.shift_one.Goals as goal
 
 pub returns-then-both_above : goal.returns-then-both_above
-unfolding at
+unfolding at edge_of
 returns-then-both_above c =
     let args = c.args in
     let far = c.both_above.ensures c.if-both_above.true in
@@ -28,7 +27,7 @@ returns-then-both_above-2 c =
     let far = c.both_above-then-limit-ne0.ensures c.if-both_above-2.true in
     let limit = c.limit_after-limit.ensures in
     edge-still args.e.delay (lowered-fell c.lowered-fell_from.ensures far.0) (lowered-fell c.lowered-fell_to.ensures far.1) args.counts.now c.requires.tasks_bound.0
-    (sym limit ∙ limit-stays (not (subsumes_by args.before.from.now args.before.to.now args.a args.b (edge args.e.source args.e.sink args.e.delay))) limit c.if-limit-ne0.true)
+    (sym limit ∙ limit-stays (not (subsumes_by args.before.from.now args.before.to.now args.a args.b (edge_of args.e))) limit c.if-limit-ne0.true)
 
 pub shift_edge-requires : goal.shift_edge-requires
 shift_edge-requires c =
@@ -37,7 +36,7 @@ shift_edge-requires c =
     let from-room : args.e.source * 64 + 64 ≤ length args.before.from.now = omega (arith, c.requires.tasks_in_bounds.0, few.3) in
     let to_room : args.e.sink * 64 + 64 ≤ length args.before.to.now = omega (arith, c.requires.tasks_in_bounds.1, few.4) in
     let sinks = c.lowered-fell_to.ensures in
-    let stays = counted-few (not (subsumes_by args.before.from.now args.before.to.now args.a args.b (edge args.e.source args.e.sink args.e.delay))) (args.e.delay + 1) in
+    let stays = counted-few (not (subsumes_by args.before.from.now args.before.to.now args.a args.b (edge_of args.e))) (args.e.delay + 1) in
     record {
       from_len = (
         row-size args.e.source args.before.from.now from-room,

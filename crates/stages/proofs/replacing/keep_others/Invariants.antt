@@ -1,16 +1,17 @@
--- `stages::replacing::keep_others` meets its contract: after j steps the fronts hold those of the first j edges that the pair does not subsume, at most j,
--- and what lies from place j on is as it was.
+-- `stages::replacing::keep_others` meets its contract: after j steps the first records hold those of the first j edges that the pair does not subsume, at
+-- most j, and what lies from place j on is as it was.
+use mathlib.Core.Path.{◌≡◌}
 use mathlib.Core.Bool.{not}
 use Prim.Native.Nat.{◌≤◌}
-use Rattle.model.specs.Lists.{keep, tabulate}
-use Rattle.records.specs.Columns.{held_edge}
+use lib.ListN.{length}
+use Rattle.model.specs.Lists.{keep}
 use Rattle.subsumption.specs.Subsumption.{subsumes_by}
-use Rattle.results.specs.Fronts.{HeldFront}
+use Rattle.stages.specs.Stages.{listed}
 use Rattle.stages.proofs.Behind.{Behind}
 use Rattle.stages.proofs.replacing.keep_others.Given as goal
 
 abbrev pub invariant-loop-j : goal.invariant-loop-j
 invariant-loop-j l =
-    (l.kept ≤ l.j) ×
-    HeldFront 256 l.kept l.source l.sink l.delay (keep (λ e. not (subsumes_by l.from l.to l.a l.b e)) (tabulate l.j (held_edge l.initial.source l.initial.sink l.initial.delay))) ×
-    Behind l.j l.initial.source l.source × Behind l.j l.initial.sink l.sink × Behind l.j l.initial.delay l.delay
+    (l.kept ≤ l.j) × (length l.stage.edges ≡ 256) ×
+    (listed l.kept l.stage.edges ≡ keep (λ e. not (subsumes_by l.from l.to l.a l.b e)) (listed l.j l.initial.stage.edges)) ×
+    Behind l.j l.initial.stage.edges l.stage.edges
