@@ -106,11 +106,6 @@ module _ (earlier : Refusal) (needed room : ℕ) where
   refused-earlier some = stops earlier (room_refusal needed room ∷ []) some
 
   module _ (none : earlier.number ≡ 0) where
-    pub long-enough : needed ≤ room → first (earlier ∷ room_refusal needed room ∷ []) ≡ not_refused
-    unfolding room_refusal
-    long-enough long =
-        passes earlier (room_refusal needed room ∷ []) none ∙ (check-passes 16 0 [] (le-ltb room needed long) ∙ no-checks)
-
     pub too_short : room < needed → first (earlier ∷ room_refusal needed room ∷ []) ≡ record { number = 16; place = 0 }
     unfolding room_refusal
     too_short short =
@@ -141,19 +136,6 @@ module _ (needed room : ℕ) where
       q ≡ first (acceptance_refusal s ∷ room_refusal needed' room ∷ [])
   room-checked s given is same =
       is ∙ sym last-room ∙ (λ i. first (room_refusal (same i) room ∷ [])) ∙ sym (goes_on _ given.refusal refl)
-
--- only where nothing is refused earlier does it matter how much room is needed
-pub same-room :
-    {earlier earlier' : Refusal} (needed needed' room : ℕ) → earlier ≡ earlier' → (earlier.number ≡ 0 → needed ≡ needed') →
-    first (earlier ∷ room_refusal needed room ∷ []) ≡ first (earlier' ∷ room_refusal needed' room ∷ [])
-same-room {earlier} {earlier'} needed needed' room is same = go (zero_or_not earlier.number)
-  where
-    go : (earlier.number ≡ 0) ⊎ (earlier.number ≢ 0) →
-        first (earlier ∷ room_refusal needed room ∷ []) ≡ first (earlier' ∷ room_refusal needed' room ∷ [])
-    go (inl none) = λ i. first (is i ∷ room_refusal (same none i) room ∷ [])
-    go (inr some) =
-        refused-earlier earlier needed room some ∙
-        (is ∙ sym (refused-earlier earlier' needed' room (λ none. some (number_same is ∙ none))))
 
 -- ── Refused answers ──
 
