@@ -3,8 +3,8 @@ use mathlib.Core.Path.{◌≡◌, sym, ◌∙◌, ap, subst}
 use Rattle.std.proofs.Common.{Ok}
 use mathlib.Core.Bool.{false}
 use mathlib.Core.List.{List}
-use Prim.Native.Nat.{ℕ, ◌≤◌, zero-le}
-use Rattle.model.specs.Tasks.{Edge, Ends}
+use Prim.Native.Nat.{ℕ, ◌≤◌}
+use Rattle.model.specs.Tasks.{Ends}
 use Rattle.model.specs.Graph.{WellFormed, count, edges}
 use Rattle.model.specs.Compute.{latency_of, zero_cycle}
 use Rattle.model.specs.Proposals.{AcceptedGraph}

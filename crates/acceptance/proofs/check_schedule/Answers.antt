@@ -10,7 +10,7 @@ use lib.ListN.{length, take, replicate}
 use mir.Facts.{Fits-widen}
 use borrow.Author.Tests.{not-true, not-false}
 use Rattle.model.specs.Tasks.{Edge, Ends}
-use Rattle.model.specs.Compute.{latency, zero_cycle}
+use Rattle.model.specs.Compute.{zero_cycle}
 use Rattle.records.specs.Columns.{edges_of, zeros, at}
 use Rattle.turn.specs.Turn.{Turned}
 use Rattle.starts.proofs.Limits.{end-as-u32}
@@ -79,7 +79,7 @@ returns-then-not-is_reached c =
     let made = told t c.in-Some.is in
     record {
       refusal = sym (stops-11 _ _ _ _ _ _ made.0 (sym c.first_turn-turn.ensures.free ∙ not-false _ c.if-not-turn.false)
-      (sym (turn-joined c.requires.fit.ends made.1 c.args.output) ∙ sym c.is_reached.ensures ∙ c.if-not-is_reached.true));
+          (sym (turn-joined c.requires.fit.ends made.1 c.args.output) ∙ sym c.is_reached.ensures ∙ c.if-not-is_reached.true));
       value = tt;
     }
 
@@ -100,10 +100,10 @@ returns-then-bound-latency c =
     let made = told t c.in-Some.is in
     record {
       refusal = sym (stops-12 _ _ _ _ _ _ made.0 (sym c.first_turn-turn.ensures.free ∙ not-false _ c.if-not-turn.false)
-      (sym (turn-joined c.requires.fit.ends made.1 c.args.output) ∙ sym c.is_reached.ensures ∙ c.if-not-is_reached.false)
-      (below-same c.if-bound-latency.true
-      (ap (λ (x : ℕ). x + at c.args.time.now c.args.output) (front-start c.first_turn-turn.new.row _ (row-long t) c.args.output c.requires.time_len_bound.2) ∙
-      turn-latency c.requires.fit.ends made.0 (λ v l. (c.requires.file_times v l).0) made.1 (front_at 64 0 refl c.requires.time_len_bound.0) c.args.output c.requires.time_len_bound.2)));
+          (sym (turn-joined c.requires.fit.ends made.1 c.args.output) ∙ sym c.is_reached.ensures ∙ c.if-not-is_reached.false)
+          (below-same c.if-bound-latency.true
+          (ap (λ (x : ℕ). x + at c.args.time.now c.args.output) (front-start c.first_turn-turn.new.row _ (row-long t) c.args.output c.requires.time_len_bound.2) ∙
+          turn-latency c.requires.fit.ends made.0 (λ v l. (c.requires.file_times v l).0) made.1 (front_at 64 0 refl c.requires.time_len_bound.0) c.args.output c.requires.time_len_bound.2)));
       value = tt;
     }
 
@@ -116,7 +116,7 @@ returns c =
     turn-latency c.requires.fit.ends made.0 (λ v l. (c.requires.file_times v l).0) made.1 (front_at 64 0 refl c.requires.time_len_bound.0) c.args.output c.requires.time_len_bound.2 in
     record {
       refusal = sym (passed _ _ _ _ _ _ made.0 (sym c.first_turn-turn.ensures.free ∙ not-false _ c.if-not-turn.false)
-      (sym (turn-joined c.requires.fit.ends made.1 c.args.output) ∙ sym c.is_reached.ensures ∙ c.if-not-is_reached.false)
-      (at-most-same c.if-bound-latency.false ends));
+          (sym (turn-joined c.requires.fit.ends made.1 c.args.output) ∙ sym c.is_reached.ensures ∙ c.if-not-is_reached.false)
+          (at-most-same c.if-bound-latency.false ends));
       value = ends;
     }

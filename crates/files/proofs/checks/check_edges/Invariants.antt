@@ -1,8 +1,7 @@
 -- `files::checks::check_edges` meets its contract: no edge that was looked at so far is refused.
 use mathlib.Core.Path.{◌≡◌}
 use mathlib.Core.List.{List}
-use Prim.Native.Nat.{ℕ, ◌-◌, ◌≤◌, ◌<◌}
-use lib.ListN.{length}
+use Prim.Native.Nat.{ℕ, ◌<◌}
 use Rattle.model.specs.Tasks.{Task, Edge}
 use Rattle.files.specs.Refusals.{not_refused}
 use Rattle.files.specs.Files.{edge_refusal}

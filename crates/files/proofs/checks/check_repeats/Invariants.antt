@@ -1,8 +1,7 @@
 -- `files::checks::check_repeats` meets its contract: none of the edges looked at so far repeats an earlier one, and each is marked.
 use mathlib.Core.Path.{◌≡◌}
 use mathlib.Core.List.{List}
-use Prim.Native.Nat.{ℕ, ◌-◌, ◌≤◌, ◌<◌}
-use lib.ListN.{length}
+use Prim.Native.Nat.{ℕ, ◌<◌}
 use Rattle.model.specs.Tasks.{Edge}
 use Rattle.files.specs.Refusals.{not_refused}
 use Rattle.files.specs.Files.{repeat_refusal}

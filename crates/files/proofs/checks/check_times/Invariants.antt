@@ -1,7 +1,6 @@
 -- `files::checks::check_times` meets its contract: no task that was looked at so far is refused.
 use mathlib.Core.Path.{◌≡◌}
-use Prim.Native.Nat.{ℕ, ◌-◌, ◌≤◌, ◌<◌}
-use lib.ListN.{length}
+use Prim.Native.Nat.{ℕ, ◌<◌}
 use Rattle.model.specs.Graph.{Graph}
 use Rattle.files.specs.Refusals.{not_refused}
 use Rattle.files.specs.Files.{time_refusal}

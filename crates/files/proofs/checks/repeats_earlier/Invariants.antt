@@ -1,7 +1,6 @@
 -- `files::checks::repeats_earlier` meets its contract: the flag says whether one of the edges looked at so far equals edge j.
 use mathlib.Core.Path.{◌≡◌}
 use mathlib.Core.List.{List}
-use Prim.Native.Nat.{◌-◌, ◌≤◌}
 use Rattle.model.specs.Lists.{any_below}
 use Rattle.model.specs.Tasks.{Edge}
 use Rattle.model.specs.Compute.{same_edge}
