@@ -45,8 +45,5 @@ slice_bounds-latest-end-2 c = row_kept c.requires.accepted_reading c.first_times
 pub follow_steps-last-requires : goal.follow_steps-last-requires
 follow_steps-last-requires c = (_, (begun c.requires.accepted_reading c.first_times-order.new.end c.first_times-order.new.latest _ _ c.requires.held_stage c.prepare.ensures c.first_times-order.ensures.ordered c.first_times-order.ensures.timed))
 
-pub shape_of-table : goal.shape_of-table
-shape_of-table c = c.prepare.auto.table
-
 pub returns : goal.returns
 returns c = c.follow_steps-last.ensures _ (begun c.requires.accepted_reading c.first_times-order.new.end c.first_times-order.new.latest _ _ c.requires.held_stage c.prepare.ensures c.first_times-order.ensures.ordered c.first_times-order.ensures.timed)
