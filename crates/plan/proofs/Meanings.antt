@@ -20,7 +20,8 @@ use Rattle.files.specs.Refusals.{not_refused, if_passed}
 use Rattle.files.proofs.First.{none-refused, zero_or_not, if-passed, if-refused}
 use Rattle.acceptance.proofs.Rooms.{accepted-given, accepted-short}
 use Rattle.acceptance.proofs.Written.{kept-past}
-use Rattle.stages.specs.Stages.{record_of, records_of, written_into, listed}
+use Rattle.stages.specs.Stages.{records_of, written_into, listed}
+use Rattle.records.specs.Columns.{record_of}
 use Rattle.stages.proofs.Listed.{records-length}
 use Rattle.plan.specs.Plan.{plan_refusal, plan_answer_of, plan_after}
 use Rattle.plan.specs.Theorems.{PlanGiven, PlanShort, PlanRefused, PlanKept, PlanPast, PlanMeans}

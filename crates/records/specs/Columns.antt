@@ -40,16 +40,30 @@ edges_of source sink delay = tabulate (length source) (held_edge source sink del
 unfoldable pub edge_of : EdgeRecord → Edge
 edge_of r = record { source = r.source; sink = r.sink; delay = r.delay }
 
+-- an edge as an edge record
+unfoldable pub record_of : Edge → EdgeRecord
+record_of e = record { source = e.source; sink = e.sink; delay = e.delay }
+
 -- edge records as edges, in their sequence
 abbrev pub edges_in : List EdgeRecord → List Edge
 edges_in rs = map edge_of rs
+
+-- their sources, their sinks and their delays
+abbrev pub sources_in : List EdgeRecord → List ℕ
+sources_in rs = map (λ r. r.source) rs
+
+abbrev pub sinks_in : List EdgeRecord → List ℕ
+sinks_in rs = map (λ r. r.sink) rs
+
+abbrev pub delays_in : List EdgeRecord → List ℕ
+delays_in rs = map (λ r. r.delay) rs
 
 -- what stands at a place where no edge record is
 abbrev pub no_record : EdgeRecord
 no_record = record { source = 0; sink = 0; delay = 0 }
 
 -- the list with f 0, f 1, .. in the places from a start up to an end, which is left out; places count from 0
-unfoldable pub with_part : ℕ → ℕ → (ℕ → ℕ) → List ℕ → List ℕ
+unfoldable pub with_part : {A : Type 0} → ℕ → ℕ → (ℕ → A) → List A → List A
 with_part start end f xs = take start xs ++ (tabulate (end - start) f ++ drop end xs)
 
 -- n zeros

@@ -9,7 +9,8 @@ use Rattle.std.proofs.lemmas.List.{map_more, map-append, length-map, length-take
 use Rattle.layout.specs.declared.EdgeRecord.{EdgeRecord}
 use Rattle.model.specs.Tasks.{Edge}
 use Rattle.records.specs.Columns.{edge_of, edges_in, no_record}
-use Rattle.stages.specs.Stages.{record_of, records_of, written_into, listed}
+use Rattle.stages.specs.Stages.{records_of, written_into, listed}
+use Rattle.records.specs.Columns.{record_of}
 
 pub records-length : (es : List Edge) → length (records_of es) ≡ length es
 unfolding records_of

@@ -2,13 +2,10 @@
 use Rattle.std.specs.Prelude.{◌≡◌, List, [], ◌∷◌, ◌++◌, ℕ, zero, suc, ◌≤◌, length, drop}
 use Rattle.model.specs.Tasks.{Edge}
 use Rattle.layout.specs.declared.EdgeRecord.{EdgeRecord}
-use Rattle.records.specs.Columns.{edge_of}
+use Rattle.records.specs.Columns.{edge_of, record_of}
 use Rattle.stages.specs.declared.StageEdges.{StageEdges}
 
--- an edge as an edge record
-unfoldable pub record_of : Edge → EdgeRecord
-record_of e = record { source = e.source; sink = e.sink; delay = e.delay }
-
+-- edges as edge records
 unfoldable pub records_of : List Edge → List EdgeRecord
 records_of [] = []
 records_of (e ∷ es) = record_of e ∷ records_of es
