@@ -11,24 +11,24 @@ use lib.Seq.{take-suc-set, take-length, get_or_at}
 use Rattle.model.specs.Lists.{tabulate}
 use Rattle.model.proofs.Basics.{below_suc}
 
-pub record Filled (f : ℕ → ℕ) (n k : ℕ) (xs : List ℕ) : Type 0 where
+pub record Filled {A : Type 0} (f : ℕ → A) (n k : ℕ) (xs : List A) : Type 0 where
   pub size : length xs ≡ n
   pub front : take k xs ≡ tabulate k f
 
-pub filled_none : (f : ℕ → ℕ) (n : ℕ) {xs : List ℕ} → length xs ≡ n → Filled f n 0 xs
+pub filled_none : {A : Type 0} (f : ℕ → A) (n : ℕ) {xs : List A} → length xs ≡ n → Filled f n 0 xs
 unfolding tabulate
 filled_none f n same = record { size = same; front = refl }
 
-pub filled_more : {f : ℕ → ℕ} {n k : ℕ} {xs : List ℕ} (a : ℕ) → Filled f n k xs → k < n → a ≡ f k → Filled f n (k + 1) (set xs k a)
+pub filled_more : {A : Type 0} {f : ℕ → A} {n k : ℕ} {xs : List A} (a : A) → Filled f n k xs → k < n → a ≡ f k → Filled f n (k + 1) (set xs k a)
 unfolding tabulate
-filled_more {f} {n} {k} {xs} a done below is =
+filled_more {A} {f} {n} {k} {xs} a done below is =
     subst (λ (j : ℕ). Filled f n j (set xs k a)) (sym (add-one k)) (record {
       size = length-set xs k a ∙ done.size;
-      front = take-suc-set xs k a (subst (λ (m : ℕ). k < m) (sym done.size) below) ∙ (ap (λ (ys : List ℕ). ys ++ (a ∷ [])) done.front ∙ ap (λ (b : ℕ). tabulate k f ++ (b ∷ [])) is);
+      front = take-suc-set xs k a (subst (λ (m : ℕ). k < m) (sym done.size) below) ∙ (ap (λ (ys : List A). ys ++ (a ∷ [])) done.front ∙ ap (λ (b : A). tabulate k f ++ (b ∷ [])) is);
     })
 
-pub filled-all : {f : ℕ → ℕ} {n k : ℕ} {xs : List ℕ} → Filled f n k xs → k ≡ n → xs ≡ tabulate n f
-filled-all {f} {n} {k} {xs} done whole =
+pub filled-all : {A : Type 0} {f : ℕ → A} {n k : ℕ} {xs : List A} → Filled f n k xs → k ≡ n → xs ≡ tabulate n f
+filled-all {A} {f} {n} {k} {xs} done whole =
     sym (take-length xs) ∙ (ap (λ (m : ℕ). take m xs) (done.size ∙ sym whole) ∙ (done.front ∙ ap (λ (m : ℕ). tabulate m f) whole))
 
 -- ── Lists made place by place ──

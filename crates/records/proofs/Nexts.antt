@@ -1,13 +1,13 @@
 -- The search for next tasks: one task more, before the others, is the first one on its processor, and the next one for it is what was the first
 -- there before; for the other processors nothing changes. What is found makes the processor edge out of a task.
 use mathlib.Core.Path.{◌≡◌, refl, sym, ap, ◌∙◌, subst}
-use mathlib.Core.Logic.{◌⊎◌, inl, inr, ⊎_elim, ◌≢◌}
+use mathlib.Core.Logic.{◌⊎◌, inl, inr, ◌≢◌}
 use mathlib.Core.List.{List}
-use Prim.Native.Nat.{ℕ, ◌+◌, ◌/◌, ◌≤◌, ◌<◌}
+use Prim.Native.Nat.{ℕ, ◌+◌, ◌≤◌, ◌<◌}
 use native.Mathlib.Omega.{arith}
 use lib.ListN.{length, get_or, set, replicate, length-set, length-replicate, get_or-replicate}
 use lib.Seq.{get_or-set_same, get_or-set_other}
-use Rattle.model.specs.Tasks.{Task, Edge, Next, Last, First, onward, around, processor_of}
+use Rattle.model.specs.Tasks.{Task, Next, Last, First, onward, around, processor_of}
 use Rattle.model.specs.Processors.{processor_edge}
 use Rattle.model.proofs.Basics.{order}
 use Rattle.model.proofs.Tests.{decided, eqb-decides}
@@ -36,7 +36,7 @@ firsts-none processor {first} few blank = record {
 pub told_none : (processor : List ℕ) {first : List ℕ} → first ≡ replicate 256 64 → Told processor first
 told_none processor blank = record { entry = λ p l. none (ap (λ (xs : List ℕ). get_or xs p 0) blank ∙ get_or-replicate {A = ℕ} 256 p 64 0 l) }
 
-pub nexts-none : (processor : List ℕ) {next : List ℕ} → length next ≡ length processor → NextTasks processor (length processor) next
+pub nexts-none : (processor : List ℕ) {next : List ℕ} → length processor ≤ length next → NextTasks processor (length processor) next
 nexts-none processor room = record { room = room; each = λ v from b. absurd (omega arith); told = λ v from b. absurd (omega arith) }
 
 -- ── One task more ──
@@ -85,7 +85,7 @@ module _ {processor : List ℕ} {v w : ℕ} (next-number : w ≡ v + 1) (below :
       {next first : List ℕ} → FirstTasks processor w first → Told processor first → NextTasks processor w next
       → NextTasks processor v (set next v (get_or first (get_or processor v 0) 0))
   nexts-more {next} {first} firsts told later = record {
-    room = length-set next v (get_or first (get_or processor v 0) 0) ∙ later.room;
+    room = subst (λ (n : ℕ). length processor ≤ n) (sym (length-set next v (get_or first (get_or processor v 0) 0))) later.room;
     each = λ u from b. go u b (order w u) from;
     told = λ u from b. say u b (order w u) from;
   }
@@ -156,40 +156,22 @@ module _ {ts : List Task} {processor : List ℕ} (of : ProcessorsOf ts processor
 
 module _ {processor next first : List ℕ} (few : length processor ≤ 64) (nexts : NextTasks processor 0 next) (firsts : FirstTasks processor 0 first)
     (v : ℕ) (below : v < length processor) (small : get_or processor v 0 < 256) (ts : List Task) (of : ProcessorsOf ts processor) where
-  -- the edge out of v with a given sink; its delay is 1 exactly where 64 stands for no next task
-  abbrev out : ℕ → Edge
-  out sink = record { source = v; sink = sink; delay = get_or next v 0 / 64 }
-
   present : v < length ts
   present = omega (arith, of.as_many)
 
-  to-next : get_or next v 0 < 64 → out (get_or next v 0) ≡ processor_edge ts v
-  to-next is = go (nexts.told v (omega arith) below)
+  pub next-edge : get_or next v 0 < 64 → record { source = v; sink = get_or next v 0; delay = 0 } ≡ processor_edge ts v
+  next-edge is = go (nexts.told v (omega arith) below)
     where
-      go : TaskOrNone processor (get_or next v 0) → out (get_or next v 0) ≡ processor_edge ts v
-      go (task there) = edge-is ts v present (onward present (next-found of v below (nexts.each v (omega arith) below) there) (omega arith)) refl
+      go : TaskOrNone processor (get_or next v 0) → record { source = v; sink = get_or next v 0; delay = 0 } ≡ processor_edge ts v
+      go (task there) = edge-is ts v present (onward present (next-found of v below (nexts.each v (omega arith) below) there) refl) refl
       go (none missing) = absurd (omega arith)
 
-  to-first : 64 ≤ get_or next v 0 → out (get_or first (get_or processor v 0) 0) ≡ processor_edge ts v
-  to-first missing = go (nexts.told v (omega arith) below)
+  pub first-edge : 64 ≤ get_or next v 0 → record { source = v; sink = get_or first (get_or processor v 0) 0; delay = 1 } ≡ processor_edge ts v
+  first-edge missing = go (nexts.told v (omega arith) below)
     where
-      go : TaskOrNone processor (get_or next v 0) → out (get_or first (get_or processor v 0) 0) ≡ processor_edge ts v
+      go : TaskOrNone processor (get_or next v 0) → record { source = v; sink = get_or first (get_or processor v 0) 0; delay = 1 } ≡ processor_edge ts v
       go (task there) = absurd (omega arith)
       go (none is) =
           edge-is ts v present
-          (around present (last_found of v below (nexts.each v (omega arith) below) (omega arith)) (first_found of v below (firsts.each (get_or processor v 0) small)) (omega arith))
+          (around present (last_found of v below (nexts.each v (omega arith) below) (omega arith)) (first_found of v below (firsts.each (get_or processor v 0) small)) refl)
           refl
-
-  pub found-source : v ≡ (processor_edge ts v).source
-  found-source =
-      ⊎_elim (λ missing. ap (λ (e : Edge). e.source) (to-first missing)) (λ is. ap (λ (e : Edge). e.source) (to-next is)) (order 64 (get_or next v 0))
-
-  pub found-delay : get_or next v 0 / 64 ≡ (processor_edge ts v).delay
-  found-delay =
-      ⊎_elim (λ missing. ap (λ (e : Edge). e.delay) (to-first missing)) (λ is. ap (λ (e : Edge). e.delay) (to-next is)) (order 64 (get_or next v 0))
-
-  pub next-sink : get_or next v 0 < 64 → get_or next v 0 ≡ (processor_edge ts v).sink
-  next-sink is = ap (λ (e : Edge). e.sink) (to-next is)
-
-  pub first-sink : 64 ≤ get_or next v 0 → get_or first (get_or processor v 0) 0 ≡ (processor_edge ts v).sink
-  first-sink missing = ap (λ (e : Edge). e.sink) (to-first missing)

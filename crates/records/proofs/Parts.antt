@@ -15,19 +15,19 @@ use Rattle.records.specs.Columns.{zeros, with_part, Column}
 use Rattle.records.proofs.Fill.{length-tabulate, get_d_tabulate}
 
 pub put-part :
-    (a e : ℕ) (f : ℕ → ℕ) (xs : List ℕ) {ys : List ℕ} {n : ℕ} → a ≤ e → n ≡ e - a → ys ≡ tabulate n f
+    {A : Type 0} (a e : ℕ) (f : ℕ → A) (xs : List A) {ys : List A} {n : ℕ} → a ≤ e → n ≡ e - a → ys ≡ tabulate n f
     → put_mid a (e - a) xs ys ≡ with_part a e f xs
 unfolding with_part
-put-part a e f xs {ys} {n} below as_many is =
-    ap (λ (z : List ℕ). take a xs ++ (z ++ post_of a (e - a) xs)) (is ∙ ap (λ (m : ℕ). tabulate m f) as_many) ∙
-    ap (λ (z : List ℕ). take a xs ++ (tabulate (e - a) f ++ z)) (Post-is a e xs below)
+put-part {A} a e f xs {ys} {n} below as_many is =
+    ap (λ (z : List A). take a xs ++ (z ++ post_of a (e - a) xs)) (is ∙ ap (λ (m : ℕ). tabulate m f) as_many) ∙
+    ap (λ (z : List A). take a xs ++ (tabulate (e - a) f ++ z)) (Post-is a e xs below)
 
 -- the same for a part from the start on
 pub put-front :
-    (e : ℕ) (f : ℕ → ℕ) (xs : List ℕ) {ys : List ℕ} {n : ℕ} → n ≡ e → ys ≡ tabulate n f → ys ++ drop e xs ≡ with_part 0 e f xs
+    {A : Type 0} (e : ℕ) (f : ℕ → A) (xs : List A) {ys : List A} {n : ℕ} → n ≡ e → ys ≡ tabulate n f → ys ++ drop e xs ≡ with_part 0 e f xs
 unfolding with_part
-put-front e f xs {ys} as_many is =
-    ap (λ (z : List ℕ). z ++ drop e xs) (is ∙ ap (λ (m : ℕ). tabulate m f) (as_many ∙ sym (sub-zero e)))
+put-front {A} e f xs {ys} as_many is =
+    ap (λ (z : List A). z ++ drop e xs) (is ∙ ap (λ (m : ℕ). tabulate m f) (as_many ∙ sym (sub-zero e)))
 
 -- ── What stands where ──
 

@@ -19,6 +19,6 @@ pub data TaskOrNone (processor : List ℕ) (r : ℕ) : Type 0 where
 
 -- The list has the next task on its processor, for each task from a task on; 64, if there is none.
 pub record NextTasks (processor : List ℕ) (from : ℕ) (next : List ℕ) : Type 0 where
-  pub room : length next ≡ length processor
+  pub room : length processor ≤ length next
   pub each : (v : ℕ) → from ≤ v → v < length processor → FirstOn processor (get_or processor v 0) (v + 1) (get_or next v 0)
   pub told : (v : ℕ) → from ≤ v → v < length processor → TaskOrNone processor (get_or next v 0)
