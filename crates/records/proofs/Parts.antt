@@ -6,7 +6,7 @@ use mathlib.Core.List.{List, ◌++◌}
 use Prim.Native.Nat.{ℕ, ◌+◌, ◌-◌, ◌≤◌, ◌<◌}
 use native.Mathlib.Nat.{sub-zero}
 use native.Mathlib.Omega.{arith}
-use lib.ListN.{length, get_or, take, drop, length-append, length-drop, length-replicate, get_or-replicate, get_or-append, get_or-eq_default}
+use lib.ListN.{length, get_or, take, drop, length-append, length-drop, replicate, length-replicate, get_or-replicate, get_or-append, get_or-eq_default}
 use lib.Seq.{length-take-le, get_or-take, get_or-drop, get_or-append-add, ext_get_or}
 use borrow.Rule.Slice.PartMut.{mid_of, post_of, put_mid, mid_len, Post-is}
 use Rattle.model.specs.Lists.{tabulate}
@@ -31,7 +31,7 @@ put-front {A} e f xs {ys} as_many is =
 
 -- ── What stands where ──
 
-module _ (a e : ℕ) (f : ℕ → ℕ) (xs : List ℕ) (below : a ≤ e) (within : e ≤ length xs) where
+module _ {A : Type 0} (a e : ℕ) (f : ℕ → A) (xs : List A) (below : a ≤ e) (within : e ≤ length xs) where
   front_length : length (take a xs) ≡ a
   front_length = length-take-le a xs (omega arith)
 
@@ -46,96 +46,102 @@ module _ (a e : ℕ) (f : ℕ → ℕ) (xs : List ℕ) (below : a ≤ e) (within
       = length-append (take a xs) (tabulate (e - a) f ++ drop e xs) in
       omega (arith, front_length)
 
-  pub part-before : (i : ℕ) → i < a → get_or (with_part a e f xs) i 0 ≡ get_or xs i 0
+  before_in : (d : A) (i : ℕ) → i < a → get_or (with_part a e f xs) i d ≡ get_or xs i d
   unfolding with_part
-  part-before i l =
-      get_or-append (take a xs) (tabulate (e - a) f ++ drop e xs) 0 i (subst (λ (n : ℕ). i < n) (sym front_length) l) ∙ get_or-take a xs i 0 l
+  before_in d i l =
+      get_or-append (take a xs) (tabulate (e - a) f ++ drop e xs) d i (subst (λ (n : ℕ). i < n) (sym front_length) l) ∙ get_or-take a xs i d l
 
-  behind : (j : ℕ) → get_or (with_part a e f xs) (a + j) 0 ≡ get_or (tabulate (e - a) f ++ drop e xs) j 0
+  behind : (d : A) (j : ℕ) → get_or (with_part a e f xs) (a + j) d ≡ get_or (tabulate (e - a) f ++ drop e xs) j d
   unfolding with_part
-  behind j =
-      ap (λ (n : ℕ). get_or (take a xs ++ (tabulate (e - a) f ++ drop e xs)) (n + j) 0) (sym front_length) ∙
-      get_or-append-add (take a xs) (tabulate (e - a) f ++ drop e xs) j 0
+  behind d j =
+      ap (λ (n : ℕ). get_or (take a xs ++ (tabulate (e - a) f ++ drop e xs)) (n + j) d) (sym front_length) ∙
+      get_or-append-add (take a xs) (tabulate (e - a) f ++ drop e xs) j d
 
-  pub part-inside : (j : ℕ) → j < e - a → get_or (with_part a e f xs) (a + j) 0 ≡ f j
-  part-inside j l =
-      behind j ∙
-      (get_or-append (tabulate (e - a) f) (drop e xs) 0 j (subst (λ (n : ℕ). j < n) (sym (length-tabulate (e - a) f)) l) ∙ get_d_tabulate (e - a) f 0 j l)
+  inside_in : (d : A) (j : ℕ) → j < e - a → get_or (with_part a e f xs) (a + j) d ≡ f j
+  inside_in d j l =
+      behind d j ∙
+      (get_or-append (tabulate (e - a) f) (drop e xs) d j (subst (λ (n : ℕ). j < n) (sym (length-tabulate (e - a) f)) l) ∙ get_d_tabulate (e - a) f d j l)
 
-  pub part-after : (i : ℕ) → e ≤ i → get_or (with_part a e f xs) i 0 ≡ get_or xs i 0
-  part-after i l =
+  after_in : (d : A) (i : ℕ) → e ≤ i → get_or (with_part a e f xs) i d ≡ get_or xs i d
+  after_in d i l =
       let k : ℕ = i - e in
       let there : a + (e - a + k) ≡ i = omega arith in
       let end : e + k ≡ i = omega arith in
-      ap (λ (n : ℕ). get_or (with_part a e f xs) n 0) (sym there) ∙
-      (behind (e - a + k) ∙
-      (ap (λ (n : ℕ). get_or (tabulate (e - a) f ++ drop e xs) (n + k) 0) (sym (length-tabulate (e - a) f)) ∙
-      (get_or-append-add (tabulate (e - a) f) (drop e xs) k 0 ∙ (get_or-drop e xs k 0 ∙ ap (λ (n : ℕ). get_or xs n 0) end))))
+      ap (λ (n : ℕ). get_or (with_part a e f xs) n d) (sym there) ∙
+      (behind d (e - a + k) ∙
+      (ap (λ (n : ℕ). get_or (tabulate (e - a) f ++ drop e xs) (n + k) d) (sym (length-tabulate (e - a) f)) ∙
+      (get_or-append-add (tabulate (e - a) f) (drop e xs) k d ∙ (get_or-drop e xs k d ∙ ap (λ (n : ℕ). get_or xs n d) end))))
 
--- ── Zeros, and parts in front of them ──
+-- the same of numbers, with 0 past the end
+module _ (a e : ℕ) (f : ℕ → ℕ) (xs : List ℕ) (below : a ≤ e) (within : e ≤ length xs) where
+  pub part-before : (i : ℕ) → i < a → get_or (with_part a e f xs) i 0 ≡ get_or xs i 0
+  part-before = before_in a e f xs below within 0
+
+  pub part-inside : (j : ℕ) → j < e - a → get_or (with_part a e f xs) (a + j) 0 ≡ f j
+  part-inside = inside_in a e f xs below within 0
+
+  pub part-after : (i : ℕ) → e ≤ i → get_or (with_part a e f xs) i 0 ≡ get_or xs i 0
+  part-after = after_in a e f xs below within 0
+
+-- ── A list of one thing, and parts in front of it ──
 
 pub zeros-length : (n : ℕ) → length (zeros n) ≡ n
 unfolding zeros
 zeros-length n = length-replicate n 0
 
-zeros-at : (n i : ℕ) → get_or (zeros n) i 0 ≡ 0
-unfolding zeros
-zeros-at n i = go (order n i)
-  where
-    go : (n ≤ i) ⊎ (i < n) → get_or (zeros n) i 0 ≡ 0
-    go (inl l) = get_or-eq_default (zeros n) 0 (subst (λ (m : ℕ). m ≤ i) (sym (zeros-length n)) l)
-    go (inr l) = get_or-replicate n i 0 0 l
+-- a list of n elements that are h 0, h 1, ..
+each-alike : {A : Type 0} (d : A) (n : ℕ) (h : ℕ → A) (xs : List A) → length xs ≡ n → ((i : ℕ) → i < n → get_or xs i d ≡ h i) → xs ≡ tabulate n h
+each-alike d n h xs as_many each =
+    ext_get_or d xs (tabulate n h) (as_many ∙ sym (length-tabulate n h))
+    (λ i l. let k : i < n = subst (λ (m : ℕ). i < m) as_many l in each i k ∙ sym (get_d_tabulate n h d i k))
 
--- a list of n numbers that are h 0, h 1, ..
 pub each-is : (n : ℕ) (h : ℕ → ℕ) (xs : List ℕ) → length xs ≡ n → ((i : ℕ) → i < n → get_or xs i 0 ≡ h i) → xs ≡ tabulate n h
-each-is n h xs as_many each =
-    ext_get_or 0 xs (tabulate n h) (as_many ∙ sym (length-tabulate n h))
-    (λ i l. let k : i < n = subst (λ (m : ℕ). i < m) as_many l in each i k ∙ sym (get_d_tabulate n h 0 i k))
+each-is = each-alike 0
 
--- a list filled with zeros place by place
-pub zeros-filled : (n : ℕ) → tabulate n (λ i. 0) ≡ zeros n
-zeros-filled n = sym (each-is n (λ i. 0) (zeros n) (zeros-length n) (λ i l. zeros-at n i))
+module _ {A : Type 0} (d : A) (size n : ℕ) (f h : ℕ → A) (fits : n ≤ size) (front : (v : ℕ) → v < n → f v ≡ h v) where
+  within-blank : n ≤ length (replicate size d)
+  within-blank = subst (λ (m : ℕ). n ≤ m) (sym (length-replicate size d)) fits
 
-module _ (size n : ℕ) (f h : ℕ → ℕ) (fits : n ≤ size) (front : (v : ℕ) → v < n → f v ≡ h v) where
-  within-zeros : n ≤ length (zeros size)
-  within-zeros = subst (λ (m : ℕ). n ≤ m) (sym (zeros-length size)) fits
+  first-length : length (with_part 0 n f (replicate size d)) ≡ size
+  first-length = part_length 0 n f (replicate size d) (omega arith) within-blank ∙ length-replicate size d
 
-  first-length : length (with_part 0 n f (zeros size)) ≡ size
-  first-length = part_length 0 n f (zeros size) (omega arith) within-zeros ∙ zeros-length size
-
-  first-inside : (v : ℕ) → v < n → get_or (with_part 0 n f (zeros size)) v 0 ≡ h v
+  first-inside : (v : ℕ) → v < n → get_or (with_part 0 n f (replicate size d)) v d ≡ h v
   first-inside v l =
       let start : 0 + v ≡ v = omega arith in
-      ap (λ (i : ℕ). get_or (with_part 0 n f (zeros size)) i 0) (sym start) ∙
-      (part-inside 0 n f (zeros size) (omega arith) within-zeros v (omega arith) ∙ front v l)
+      ap (λ (i : ℕ). get_or (with_part 0 n f (replicate size d)) i d) (sym start) ∙
+      (inside_in 0 n f (replicate size d) (omega arith) within-blank d v (omega arith) ∙ front v l)
 
-  first-after : (i : ℕ) → n ≤ i → get_or (with_part 0 n f (zeros size)) i 0 ≡ 0
-  first-after i l = part-after 0 n f (zeros size) (omega arith) within-zeros i l ∙ zeros-at size i
-
-  pub one-part : ((i : ℕ) → n ≤ i → h i ≡ 0) → with_part 0 n f (zeros size) ≡ tabulate size h
-  one-part past = each-is size h (with_part 0 n f (zeros size)) first-length (λ i l. go i (order n i))
+  first-after : (i : ℕ) → n ≤ i → get_or (with_part 0 n f (replicate size d)) i d ≡ d
+  first-after i l = after_in 0 n f (replicate size d) (omega arith) within-blank d i l ∙ go (order size i)
     where
-      go : (i : ℕ) → (n ≤ i) ⊎ (i < n) → get_or (with_part 0 n f (zeros size)) i 0 ≡ h i
+      go : (size ≤ i) ⊎ (i < size) → get_or (replicate size d) i d ≡ d
+      go (inl k) = get_or-eq_default (replicate size d) d (subst (λ (m : ℕ). m ≤ i) (sym (length-replicate size d)) k)
+      go (inr k) = get_or-replicate size i d d k
+
+  pub one-part : ((i : ℕ) → n ≤ i → h i ≡ d) → with_part 0 n f (replicate size d) ≡ tabulate size h
+  one-part past = each-alike d size h (with_part 0 n f (replicate size d)) first-length (λ i l. go i (order n i))
+    where
+      go : (i : ℕ) → (n ≤ i) ⊎ (i < n) → get_or (with_part 0 n f (replicate size d)) i d ≡ h i
       go i (inl l) = first-after i l ∙ sym (past i l)
       go i (inr l) = first-inside i l
 
   pub two-parts :
-      (m : ℕ) (f' : ℕ → ℕ) → n + m ≤ size → ((j : ℕ) → j < m → f' j ≡ h (n + j)) → ((i : ℕ) → n + m ≤ i → h i ≡ 0)
-      → with_part n (n + m) f' (with_part 0 n f (zeros size)) ≡ tabulate size h
+      (m : ℕ) (f' : ℕ → A) → n + m ≤ size → ((j : ℕ) → j < m → f' j ≡ h (n + j)) → ((i : ℕ) → n + m ≤ i → h i ≡ d)
+      → with_part n (n + m) f' (with_part 0 n f (replicate size d)) ≡ tabulate size h
   two-parts m f' room back past =
-      each-is size h (with_part n (n + m) f' (with_part 0 n f (zeros size))) (part_length n (n + m) f' _ (omega arith) inside ∙ first-length)
+      each-alike d size h (with_part n (n + m) f' (with_part 0 n f (replicate size d))) (part_length n (n + m) f' _ (omega arith) inside ∙ first-length)
       (λ i l. go i (order n i) (order (n + m) i))
     where
-      inside : n + m ≤ length (with_part 0 n f (zeros size))
+      inside : n + m ≤ length (with_part 0 n f (replicate size d))
       inside = subst (λ (k : ℕ). n + m ≤ k) (sym first-length) room
 
-      go : (i : ℕ) → (n ≤ i) ⊎ (i < n) → (n + m ≤ i) ⊎ (i < n + m) → get_or (with_part n (n + m) f' (with_part 0 n f (zeros size))) i 0 ≡ h i
-      go i (inr l) later = part-before n (n + m) f' _ (omega arith) inside i l ∙ first-inside i l
-      go i (inl l) (inl k) = part-after n (n + m) f' _ (omega arith) inside i k ∙ (first-after i (omega arith) ∙ sym (past i k))
+      go : (i : ℕ) → (n ≤ i) ⊎ (i < n) → (n + m ≤ i) ⊎ (i < n + m) → get_or (with_part n (n + m) f' (with_part 0 n f (replicate size d))) i d ≡ h i
+      go i (inr l) later = before_in n (n + m) f' _ (omega arith) inside d i l ∙ first-inside i l
+      go i (inl l) (inl k) = after_in n (n + m) f' _ (omega arith) inside d i k ∙ (first-after i (omega arith) ∙ sym (past i k))
       go i (inl l) (inr k) =
           let there : n + (i - n) ≡ i = omega arith in
-          ap (λ (p : ℕ). get_or (with_part n (n + m) f' (with_part 0 n f (zeros size))) p 0) (sym there) ∙
-          (part-inside n (n + m) f' _ (omega arith) inside (i - n) (omega arith) ∙ (back (i - n) (omega arith) ∙ ap h there))
+          ap (λ (p : ℕ). get_or (with_part n (n + m) f' (with_part 0 n f (replicate size d))) p d) (sym there) ∙
+          (inside_in n (n + m) f' _ (omega arith) inside d (i - n) (omega arith) ∙ (back (i - n) (omega arith) ∙ ap h there))
 
 -- ── A part as a column ──
 
@@ -168,18 +174,22 @@ column-of-take missing part rows size n {xs} is fits as_many =
 
 -- ── Room ──
 
-pub zeros-room : (size : ℕ) {n : ℕ} {xs : List ℕ} → xs ≡ zeros size → n ≤ size → n ≤ length xs
-zeros-room size {n} is few = subst (λ (k : ℕ). n ≤ k) (sym (ap length is ∙ zeros-length size)) few
+pub blank-room : {A : Type 0} (d : A) (size : ℕ) {n : ℕ} {xs : List A} → xs ≡ replicate size d → n ≤ size → n ≤ length xs
+blank-room d size {n} is few = subst (λ (k : ℕ). n ≤ k) (sym (ap length is ∙ length-replicate size d)) few
 
-pub within-list : (size : ℕ) (h : ℕ → ℕ) {n : ℕ} {xs : List ℕ} → xs ≡ tabulate size h → n ≤ size → n ≤ length xs
+pub zeros-room : (size : ℕ) {n : ℕ} {xs : List ℕ} → xs ≡ zeros size → n ≤ size → n ≤ length xs
+unfolding zeros
+zeros-room size is few = blank-room 0 size is few
+
+pub within-list : {A : Type 0} (size : ℕ) (h : ℕ → A) {n : ℕ} {xs : List A} → xs ≡ tabulate size h → n ≤ size → n ≤ length xs
 within-list size h {n} is few = subst (λ (k : ℕ). n ≤ k) (sym (ap length is ∙ length-tabulate size h)) few
 
--- zeros with a filled front are as long as the zeros were, whatever stands in front
+-- a list of one thing with a filled front is as long as it was, whatever stands in front
 pub filled-room :
-    (size n : ℕ) (f : ℕ → ℕ) {k : ℕ} {before after : List ℕ} → n ≤ size → before ≡ zeros size → after ≡ with_part 0 n f before → k ≤ size
-    → k ≤ length after
-filled-room size n f {k} {before} {after} fits blank filled few =
-    let long : length before ≡ size = ap length blank ∙ zeros-length size in
+    {A : Type 0} (d : A) (size n : ℕ) (f : ℕ → A) {k : ℕ} {before after : List A} → n ≤ size → before ≡ replicate size d → after ≡ with_part 0 n f before
+    → k ≤ size → k ≤ length after
+filled-room d size n f {k} {before} {after} fits blank filled few =
+    let long : length before ≡ size = ap length blank ∙ length-replicate size d in
     let whole : length (with_part 0 n f before) ≡ length before = part_length 0 n f before (omega arith) (omega arith) in
     let same : length (with_part 0 n f before) ≡ length after = ap length (sym filled) in
     omega arith
