@@ -1,6 +1,7 @@
 -- The edges of edge records: each stands at its record's place, so a bound on the ends of all edges is one on those of each record. Records hold
 -- the edges that their three columns hold.
 use mathlib.Core.Path.{◌≡◌, refl, sym, ◌∙◌, subst}
+use mathlib.Core.List.Memᴰ
 use mathlib.Core.List.Memᴰ.{head as here}
 use mathlib.Core.List.Memᴰ.{tail as there}
 use mathlib.Core.List.{List, [], ◌∷◌}
@@ -10,7 +11,7 @@ use native.Mathlib.Omega.{arith}
 use lib.ListN.{length, get_or, length-map, get_or-map}
 use lib.Seq.{ext_get_or}
 use Rattle.layout.specs.declared.EdgeRecord.{EdgeRecord}
-use Rattle.model.specs.Tasks.{Ends, ◌∈◌, no_edge}
+use Rattle.model.specs.Tasks.{Edge, Ends, ◌∈◌, no_edge}
 use Rattle.records.specs.Columns.{edge_of, edges_in, edges_of, held_edge, sources_in, sinks_in, delays_in, no_record}
 use Rattle.records.proofs.Edges.{edges-length, edge-at}
 
@@ -18,6 +19,12 @@ pub record-in : (rs : List EdgeRecord) (j : ℕ) → j < length rs → edge_of (
 record-in [] j l = absurd (not-suc-le-zero l)
 record-in (r ∷ rs) zero l = here refl
 record-in (r ∷ rs) (suc j) l = there (record-in rs j (omega arith))
+
+-- each of the edges is that of a record
+pub record-out : (rs : List EdgeRecord) (e : Edge) → e ∈ edges_in rs → (j : ℕ) × (j < length rs) × (e ≡ edge_of (get_or rs j no_record))
+record-out [] e m = absurd (Memᴰ.not-nil m)
+record-out (r ∷ rs) e (here q) = (0, omega arith, q)
+record-out (r ∷ rs) e (there m) = let found = record-out rs e m in (suc found.0, omega (arith, found.1), found.2)
 
 -- the ends of the edge of each record
 pub ends_at :

@@ -2,5 +2,6 @@
 use Rattle.sets.specs.Sets.{ZeroWords}
 use Rattle.sets.proofs.take_edges.Given as goal
 
-abbrev pub invariant-loop-j : goal.invariant-loop-j
-invariant-loop-j l = ZeroWords l.source l.sink l.delay l.j l.sinks × ZeroWords l.sink l.source l.delay l.j l.sources
+abbrev pub invariant-loop-e : goal.invariant-loop-e
+invariant-loop-e l =
+    ZeroWords (λ e. e.source) (λ e. e.sink) l.edges l.e-index l.sinks × ZeroWords (λ e. e.sink) (λ e. e.source) l.edges l.e-index l.sources
