@@ -1,9 +1,9 @@
--- What stands at each place of the working lists: the numbers of the file's tasks, of the processor edges and of the file's edges, then 0. A list
+-- What stands at each place of the working lists: the numbers of the file's tasks, then 0; the processor edges and the file's edges, then records of zeros. A list
 -- made place by place has at each place what it was made of, and past its end the task or edge of zeros.
 use mathlib.Core.Path.{◌≡◌, refl, sym, ap, ◌∙◌, subst}
 use mathlib.Core.List.{List}
 use Prim.Native.Nat.{ℕ, ◌+◌, ◌-◌, ◌≤◌, ◌<◌}
-use lib.ListN.{length, get_or, get_or-eq_default}
+use lib.ListN.{length, get_or, replicate, get_or-eq_default}
 use native.Mathlib.Omega.{arith}
 use Rattle.model.specs.Lists.{tabulate}
 use Rattle.model.specs.Tasks.{Task, Edge, no_task, no_edge}
@@ -11,12 +11,14 @@ use Rattle.model.specs.Processors.{processor_edge}
 use Rattle.model.specs.Graph.{Graph, edges}
 use Rattle.layout.specs.Layout.{graph_header, proposal_header, graph_header_bits, proposal_header_bits, record_start, task_at, edge_at}
 use Rattle.layout.specs.declared.GraphHeader.{GraphHeader}
+use Rattle.layout.specs.declared.EdgeRecord.{EdgeRecord}
 use Rattle.files.specs.Files.{task_count, edge_count, edges_from, graph_of, proposal_of, edge_in}
 use borrow.Rule.Slice.PartMut.{mid_of}
-use Rattle.records.specs.Columns.{zeros, with_part, Column}
+use Rattle.records.specs.Columns.{zeros, with_part, record_of, edges_in, no_record}
 use Rattle.records.proofs.Fill.{length-tabulate, get_d_tabulate}
 use Rattle.records.proofs.Ordered.{edges-count, processor-edge-at, sync-place}
-use Rattle.records.proofs.Parts.{one-part, two-parts, column-of-part}
+use Rattle.records.proofs.Parts.{one-part, two-parts}
+use Rattle.records.proofs.EdgesIn.{edges-of-part}
 
 -- ── Edges of a file ──
 
@@ -72,27 +74,28 @@ pub ordered-then : (g : Graph) (j : ℕ) → edge_in g.syncs j ≡ edge_in (edge
 unfolding edge_in
 ordered-then g j = sym (sync-place g j)
 
--- ── The lists as wholes, one number of each element at a time ──
+-- ── The lists as wholes ──
 
-module _ (part : Edge → ℕ) (nothing : part no_edge ≡ 0) (s : List ℕ) where
-  past : (es : List Edge) (i : ℕ) → length es ≤ i → part (edge_in es i) ≡ 0
-  past es i l = ap part (edge-past es i l) ∙ nothing
+-- past the edges stands the record of zeros
+past : (es : List Edge) (i : ℕ) → length es ≤ i → record_of (edge_in es i) ≡ no_record
+unfolding record_of
+past es i l = ap record_of (edge-past es i l)
 
-  pub proposal-list :
-      {m : ℕ} {before after : List ℕ} → m ≡ (proposal_header s).edges → m ≤ 256 → before ≡ zeros 256
-      → after ≡ with_part 0 m (λ j. part (edge_at s (record_start proposal_header_bits j))) before
-      → after ≡ tabulate 256 (λ i. part (edge_in (proposal_of s) i))
-  unfolding proposal_of
-  proposal-list {m} {before} {after} as_many few blank filled =
-      let count : ℕ = (proposal_header s).edges in
-      let f : ℕ → ℕ = λ j. part (edge_at s (record_start proposal_header_bits j)) in
-      filled ∙
-      (ap (with_part 0 m f) blank ∙
-      one-part 256 m f (λ i. part (edge_in (edges_from s proposal_header_bits count) i)) few
-      (λ v l. ap part (edge-from s proposal_header_bits count v (subst (λ (n : ℕ). v < n) as_many l)))
-      (λ i l.
-      past (edges_from s proposal_header_bits count) i
-      (subst (λ (n : ℕ). n ≤ i) (sym (edges-from-count s proposal_header_bits count ∙ sym as_many)) l)))
+pub proposal-list :
+    (s : List ℕ) {m : ℕ} {before after : List EdgeRecord} → m ≡ (proposal_header s).edges → m ≤ 256 → before ≡ replicate 256 no_record
+    → after ≡ with_part 0 m (λ j. record_of (edge_at s (record_start proposal_header_bits j))) before
+    → after ≡ tabulate 256 (λ i. record_of (edge_in (proposal_of s) i))
+unfolding proposal_of
+proposal-list s {m} {before} {after} as_many few blank filled =
+    let count : ℕ = (proposal_header s).edges in
+    let f : ℕ → EdgeRecord = λ j. record_of (edge_at s (record_start proposal_header_bits j)) in
+    filled ∙
+    (ap (with_part 0 m f) blank ∙
+    one-part no_record 256 m f (λ i. record_of (edge_in (edges_from s proposal_header_bits count) i)) few
+    (λ v l. ap record_of (edge-from s proposal_header_bits count v (subst (λ (n : ℕ). v < n) as_many l)))
+    (λ i l.
+    past (edges_from s proposal_header_bits count) i
+    (subst (λ (n : ℕ). n ≤ i) (sym (edges-from-count s proposal_header_bits count ∙ sym as_many)) l)))
 
 module _ (s : List ℕ) {h : GraphHeader} (is : h ≡ graph_header s) where
   tasks-are : h.tasks ≡ task_count s
@@ -112,32 +115,33 @@ module _ (s : List ℕ) {h : GraphHeader} (is : h ≡ graph_header s) where
       (part : Task → ℕ) → part no_task ≡ 0 → {before after : List ℕ} → h.tasks ≤ 64 → before ≡ zeros 64
       → after ≡ with_part 0 h.tasks (λ v. part (task_at s (record_start graph_header_bits v))) before
       → after ≡ tabulate 64 (λ v. part (get_or (graph_of s).tasks v no_task))
+  unfolding zeros
   task-list part nothing few blank filled =
       filled ∙
       (ap (with_part 0 h.tasks (λ v. part (task_at s (record_start graph_header_bits v)))) blank ∙
-      one-part 64 h.tasks (λ v. part (task_at s (record_start graph_header_bits v))) (λ v. part (get_or (graph_of s).tasks v no_task)) few
+      one-part 0 64 h.tasks (λ v. part (task_at s (record_start graph_header_bits v))) (λ v. part (get_or (graph_of s).tasks v no_task)) few
       (λ v l. ap part (task-is s v (subst (λ (n : ℕ). v < n) tasks-are l)))
       (λ v l. ap part (task-past s v (subst (λ (n : ℕ). n ≤ v) tasks-are l)) ∙ nothing))
 
-  -- one number of each edge that orders the graph of a file
+  -- the edges that order the graph of a file
   pub edge-list :
-      (part : Edge → ℕ) → part no_edge ≡ 0 → {before middle after : List ℕ} → h.tasks ≤ 64 → h.edges ≤ 256 → before ≡ zeros 320
-      → middle ≡ with_part 0 h.tasks (λ v. part (processor_edge (graph_of s).tasks v)) before
-      → after ≡ with_part h.tasks (h.tasks + h.edges) (λ j. part (edge_at s (record_start (record_start graph_header_bits h.tasks) j))) middle
-      → after ≡ tabulate 320 (λ i. part (edge_in (edges (graph_of s)) i))
-  edge-list part nothing {before} {middle} few-tasks few-edges blank first second =
+      {before middle after : List EdgeRecord} → h.tasks ≤ 64 → h.edges ≤ 256 → before ≡ replicate 320 no_record
+      → middle ≡ with_part 0 h.tasks (λ v. record_of (processor_edge (graph_of s).tasks v)) before
+      → after ≡ with_part h.tasks (h.tasks + h.edges) (λ j. record_of (edge_at s (record_start (record_start graph_header_bits h.tasks) j))) middle
+      → after ≡ tabulate 320 (λ i. record_of (edge_in (edges (graph_of s)) i))
+  edge-list few-tasks few-edges blank first second =
       let g : Graph = graph_of s in
       let n : ℕ = h.tasks in
       let m : ℕ = h.edges in
-      let f : ℕ → ℕ = λ v. part (processor_edge (graph_of s).tasks v) in
-      let f' : ℕ → ℕ = λ j. part (edge_at s (record_start (record_start graph_header_bits n) j)) in
+      let f : ℕ → EdgeRecord = λ v. record_of (processor_edge (graph_of s).tasks v) in
+      let f' : ℕ → EdgeRecord = λ j. record_of (edge_at s (record_start (record_start graph_header_bits n) j)) in
       second ∙
       (ap (with_part n (n + m) f') (first ∙ ap (with_part 0 n f) blank) ∙
-      two-parts 320 n f (λ i. part (edge_in (edges g) i)) (omega arith)
-      (λ v l. ap part (ordered-first g v (subst (λ (k : ℕ). v < k) header-tasks l)))
+      two-parts no_record 320 n f (λ i. record_of (edge_in (edges g) i)) (omega arith)
+      (λ v l. ap record_of (ordered-first g v (subst (λ (k : ℕ). v < k) header-tasks l)))
       m f' (omega arith)
-      (λ j l. ap part (file-edge j l))
-      (λ i l. ap part (edge-past (edges g) i (subst (λ (k : ℕ). k ≤ i) (sym (edges-count g ∙ total)) l)) ∙ nothing))
+      (λ j l. ap record_of (file-edge j l))
+      (λ i l. past (edges g) i (subst (λ (k : ℕ). k ≤ i) (sym (edges-count g ∙ total)) l)))
     where
       total : length (graph_of s).tasks + length (graph_of s).syncs ≡ h.tasks + h.edges
       total = ap (λ (k : ℕ). k + length (graph_of s).syncs) (sym header-tasks) ∙ ap (λ (k : ℕ). h.tasks + k) (sym header-edges)
@@ -148,14 +152,13 @@ module _ (s : List ℕ) {h : GraphHeader} (is : h ≡ graph_header s) where
           (sync-is s j (subst (λ (k : ℕ). j < k) edges_are l) ∙
           (ordered-then (graph_of s) j ∙ ap (λ (k : ℕ). edge_in (edges (graph_of s)) (k + j)) (sym header-tasks)))
 
-  -- the part of a working list that holds the file's edges
-  pub sync-column :
-      (part : Edge → ℕ) {xs : List ℕ} → h.tasks ≤ 64 → h.edges ≤ 256 → xs ≡ tabulate 320 (λ i. part (edge_in (edges (graph_of s)) i))
-      → Column no_edge part (graph_of s).syncs (mid_of h.tasks (h.tasks + h.edges - h.tasks) xs)
-  sync-column part few-tasks few-edges list =
+  -- the part of the working list that holds the file's edges
+  pub syncs-part :
+      {xs : List EdgeRecord} → h.tasks ≤ 64 → h.edges ≤ 256 → xs ≡ tabulate 320 (λ i. record_of (edge_in (edges (graph_of s)) i))
+      → edges_in (mid_of h.tasks (h.tasks + h.edges - h.tasks) xs) ≡ (graph_of s).syncs
+  syncs-part few-tasks few-edges list =
       let size : h.tasks + h.edges - h.tasks ≡ length (graph_of s).syncs = omega (arith, header-edges) in
-      column-of-part no_edge part (graph_of s).syncs 320 h.tasks (h.tasks + h.edges) (λ i. part (edge_in (edges (graph_of s)) i)) list
-      (omega arith) (omega arith) size (λ j l. ap part (there j))
+      edges-of-part (graph_of s).syncs 320 h.tasks (h.tasks + h.edges) (edge_in (edges (graph_of s))) list (omega arith) (omega arith) size (λ j l. there j)
     where
       there : (j : ℕ) → edge_in (edges (graph_of s)) (h.tasks + j) ≡ get_or (graph_of s).syncs j no_edge
       there j = ap (λ (k : ℕ). edge_in (edges (graph_of s)) (k + j)) header-tasks ∙ (sym (ordered-then (graph_of s) j) ∙ edge_in_lem (graph_of s).syncs j)

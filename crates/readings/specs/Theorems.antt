@@ -2,7 +2,7 @@
 use Rattle.std.specs.Prelude.{◌≡◌, List, ℕ, ◌+◌, ◌≤◌, length, take, Result, Ok}
 use Rattle.model.specs.Tasks.{Edge}
 use Rattle.model.specs.Graph.{Graph, WellFormed, WellFormedEdges, count, edges}
-use Rattle.records.specs.Columns.{ProcessorsOf, TimesOf, SourcesOf, SinksOf, DelaysOf}
+use Rattle.records.specs.Columns.{ProcessorsOf, TimesOf, edges_in}
 use Rattle.files.specs.Files.{graph_of, proposal_of, graph_refusal, proposal_refusal}
 use Rattle.files.specs.declared.Fault.{Fault}
 use Rattle.files.specs.Refusals.{refusal_in}
@@ -36,18 +36,14 @@ ProposalGiven = (n : ℕ) (s : List ℕ) (r : Result ProposalReading Fault) → 
 pub record Held (g : Graph) : Type 0 where
   pub processors : ProcessorsOf g.tasks (take (count g) (working_graph g).processor)
   pub times : TimesOf g.tasks (take (count g) (working_graph g).time)
-  pub sources : SourcesOf (edges g) (take (count g + length g.syncs) (working_graph g).source)
-  pub sinks : SinksOf (edges g) (take (count g + length g.syncs) (working_graph g).sink)
-  pub delays : DelaysOf (edges g) (take (count g + length g.syncs) (working_graph g).delay)
+  pub ordering : edges_in (take (count g + length g.syncs) (working_graph g).ordering) ≡ edges g
 
 abbrev pub WorkingHolds : Type 0
 WorkingHolds = (g : Graph) → count g ≤ 64 → length g.syncs ≤ 256 → Held g
 
 -- the same of proposed edges
 pub record HeldEdges (es : List Edge) : Type 0 where
-  pub sources : SourcesOf es (take (length es) (working_proposal es).source)
-  pub sinks : SinksOf es (take (length es) (working_proposal es).sink)
-  pub delays : DelaysOf es (take (length es) (working_proposal es).delay)
+  pub proposed : edges_in (take (length es) (working_proposal es).proposed) ≡ es
 
 abbrev pub WorkingEdgesHold : Type 0
 WorkingEdgesHold = (es : List Edge) → length es ≤ 256 → HeldEdges es

@@ -1,10 +1,11 @@
--- The working form of what a file holds: lists of a fixed length, 0 past the end. Of a graph, the edges that order it stand in one list, processor
+-- The working form of what a file holds: lists of a fixed length, 0 past the end, edges as records. Of a graph, the edges that order it stand in one list, processor
 -- edges first (entry v is the one out of task v), then those of the file.
-use Rattle.std.specs.Prelude.{◌≡◌, List, ℕ, ◌+◌, length, Result}
+use Rattle.std.specs.Prelude.{◌≡◌, List, ℕ, ◌+◌, length, get_or, Result}
 use Rattle.model.specs.Lists.{tabulate}
 use Rattle.model.specs.Tasks.{Edge, processor_of}
 use Rattle.model.specs.Graph.{Graph, time_of, edges}
-use Rattle.records.specs.Columns.{at, held_edge}
+use Rattle.layout.specs.declared.EdgeRecord.{EdgeRecord}
+use Rattle.records.specs.Columns.{at, edge_of, record_of, no_record}
 use Rattle.files.specs.declared.Fault.{Fault}
 use Rattle.files.specs.Files.{edge_in, graph_of, graph_refusal, proposal_of, proposal_refusal}
 use Rattle.files.specs.Refusals.{Gives}
@@ -21,9 +22,7 @@ working_graph g = record {
   bound = g.bound;
   processor = tabulate 64 (processor_of g.tasks);
   time = tabulate 64 (time_of g);
-  source = tabulate 320 (λ i. (edge_in (edges g) i).source);
-  sink = tabulate 320 (λ i. (edge_in (edges g) i).sink);
-  delay = tabulate 320 (λ i. (edge_in (edges g) i).delay);
+  ordering = tabulate 320 (λ i. record_of (edge_in (edges g) i));
 }
 
 -- what reading a graph file gives: the refusal that the file gets, and the graph if there is none
@@ -34,9 +33,7 @@ GraphRead s answer = Gives answer (graph_refusal s) (working_graph (graph_of s))
 unfoldable pub working_proposal : List Edge → ProposalReading
 working_proposal es = record {
   edges = length es;
-  source = tabulate 256 (λ i. (edge_in es i).source);
-  sink = tabulate 256 (λ i. (edge_in es i).sink);
-  delay = tabulate 256 (λ i. (edge_in es i).delay);
+  proposed = tabulate 256 (λ i. record_of (edge_in es i));
 }
 
 -- what reading a proposal file gives, beside a graph of n tasks
@@ -47,7 +44,7 @@ ProposalRead n s answer = Gives answer (proposal_refusal n s) (working_proposal 
 unfoldable pub graph_in : GraphReading → Graph
 graph_in r = record {
   tasks = tabulate r.tasks (λ v. record { processor = at r.processor v; time = at r.time v });
-  syncs = tabulate r.edges (λ j. held_edge r.source r.sink r.delay (r.tasks + j));
+  syncs = tabulate r.edges (λ j. edge_of (get_or r.ordering (r.tasks + j) no_record));
   input = r.input;
   output = r.output;
   bound = r.bound;
@@ -55,12 +52,10 @@ graph_in r = record {
 
 -- the edges that a proposal's working form holds
 unfoldable pub proposed_in : ProposalReading → List Edge
-proposed_in p = tabulate p.edges (held_edge p.source p.sink p.delay)
+proposed_in p = tabulate p.edges (λ j. edge_of (get_or p.proposed j no_record))
 
--- Only for contracts inside: five lists are those of a graph's working form.
-pub record GraphLists (g : Graph) (processor time source sink delay : List ℕ) : Type 0 where
+-- Only for contracts inside: three lists are those of a graph's working form.
+pub record GraphLists (g : Graph) (processor time : List ℕ) (ordering : List EdgeRecord) : Type 0 where
   pub processors : processor ≡ (working_graph g).processor
   pub times : time ≡ (working_graph g).time
-  pub sources : source ≡ (working_graph g).source
-  pub sinks : sink ≡ (working_graph g).sink
-  pub delays : delay ≡ (working_graph g).delay
+  pub orders : ordering ≡ (working_graph g).ordering

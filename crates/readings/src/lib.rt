@@ -4,6 +4,8 @@
 mod graphs;
 mod proposals;
 
+use layout::EdgeRecord;
+
 pub use graphs::read_graph;
 pub use proposals::read_proposal;
 
@@ -18,16 +20,12 @@ pub struct GraphReading {
     pub bound: u32,
     pub processor: [u8; 64],
     pub time: [u16; 64],
-    pub source: [u8; 320],
-    pub sink: [u8; 320],
-    pub delay: [u8; 320],
+    pub ordering: [EdgeRecord; 320],
 }
 
 // A proposal file as read, by value. Past the end every number is 0.
 #[derive(Clone, Copy)]
 pub struct ProposalReading {
     pub edges: u32,
-    pub source: [u8; 256],
-    pub sink: [u8; 256],
-    pub delay: [u8; 256],
+    pub proposed: [EdgeRecord; 256],
 }

@@ -1,5 +1,5 @@
--- `readings::graphs::graph_lists` meets its contract: zeros with the tasks in front, and zeros with the processor edges and then the file's edges
--- in front, are the lists of the working form.
+-- `readings::graphs::graph_lists` meets its contract: zeros with the tasks in front, and blank records with the processor edges and then the file's
+-- edges in front, are the lists of the working form.
 use mathlib.Core.Path.{refl}
 use Prim.Native.Nat.{◌+◌, ◌≤◌}
 use native.Mathlib.Omega.{arith}
@@ -7,7 +7,8 @@ use Rattle.model.specs.Tasks.{no_task, processor_of}
 use Rattle.model.specs.Graph.{time_of}
 use Rattle.files.specs.Files.{graph_of}
 use Rattle.readings.specs.Working.{working_graph}
-use Rattle.records.proofs.Parts.{zeros-room, filled-room, within-list, column-of-take}
+use Rattle.records.specs.Columns.{no_record}
+use Rattle.records.proofs.Parts.{zeros-room, blank-room, filled-room, within-list, column-of-take}
 use Rattle.readings.proofs.Whole.{header-tasks, task-list, edge-list}
 use Rattle.readings.proofs.graphs.graph_lists.Goals as goal
 
@@ -21,15 +22,11 @@ tasks_into-requires c =
 
 pub processor_edges_into-requires : goal.processor_edges_into-requires
 processor_edges_into-requires c =
-    let s = c.args.bytes.now in
-    let is = c.requires.header_value in
     let few = c.requires.tasks_bound in
-    let processors = task-list s is (λ t. t.processor) refl few.0 c.requires.processor_value.0 c.tasks_into.ensures.processor_after in
-    let room : c.args.header.tasks ≤ 320 = omega (arith, few.0) in
+    let processors = task-list c.args.bytes.now c.requires.header_value (λ t. t.processor) refl few.0 c.requires.processor_value.0 c.tasks_into.ensures.processor_after in
     record {
       tasks_bound = few.0;
-      tasks_in_bounds = within-list 64 _ processors few.0;
-      tasks_in_bounds_2 = (zeros-room 320 c.requires.source_value.0 room, zeros-room 320 c.requires.source_value.1 room, zeros-room 320 c.requires.source_value.2 room);
+      tasks_in_bounds = (within-list 64 _ processors few.0, blank-room no_record 320 c.requires.ordering_value (omega (arith, few.0)));
     }
 
 pub edges_into-requires : goal.edges_into-requires
@@ -38,16 +35,11 @@ edges_into-requires c =
     let is = c.requires.header_value in
     let few = c.requires.tasks_bound in
     let processors = task-list s is (λ t. t.processor) refl few.0 c.requires.processor_value.0 c.tasks_into.ensures.processor_after in
-    let less : c.args.header.tasks ≤ 320 = omega (arith, few.0) in
-    let room : c.args.header.tasks + c.args.header.edges ≤ 320 = omega (arith, few.0, few.1) in
-    let on = column-of-take no_task (λ t. t.processor) (graph_of s).tasks 64 c.args.header.tasks processors few.0 (header-tasks s is) in record {
+    let on = column-of-take no_task (λ t. t.processor) (graph_of s).tasks 64 c.args.header.tasks processors few.0 (header-tasks s is) in
+    record {
       position_bound = omega (arith, few.0);
       from_le_to = (omega arith, omega (arith, few.1));
-      to_in_bounds = (
-        filled-room 320 _ _ less c.requires.source_value.0 (c.processor_edges_into.ensures.source_after (graph_of s).tasks on) room,
-        filled-room 320 _ _ less c.requires.source_value.1 (c.processor_edges_into.ensures.sink_after (graph_of s).tasks on) room,
-        filled-room 320 _ _ less c.requires.source_value.2 (c.processor_edges_into.ensures.delay_after (graph_of s).tasks on) room,
-      );
+      to_in_bounds = filled-room no_record 320 _ _ (omega (arith, few.0)) c.requires.ordering_value (c.processor_edges_into.ensures (graph_of s).tasks on) (omega (arith, few.0, few.1));
     }
 
 pub returns : goal.returns
@@ -61,7 +53,5 @@ returns c =
     record {
       processors = processors;
       times = task-list s is (λ t. t.time) refl few.0 c.requires.processor_value.1 c.tasks_into.ensures.time_after;
-      sources = edge-list s is (λ e. e.source) refl few.0 few.1 c.requires.source_value.0 (c.processor_edges_into.ensures.source_after (graph_of s).tasks on) c.edges_into.ensures.source_after;
-      sinks = edge-list s is (λ e. e.sink) refl few.0 few.1 c.requires.source_value.1 (c.processor_edges_into.ensures.sink_after (graph_of s).tasks on) c.edges_into.ensures.sink_after;
-      delays = edge-list s is (λ e. e.delay) refl few.0 few.1 c.requires.source_value.2 (c.processor_edges_into.ensures.delay_after (graph_of s).tasks on) c.edges_into.ensures.delay_after;
+      orders = edge-list s is few.0 few.1 c.requires.ordering_value (c.processor_edges_into.ensures (graph_of s).tasks on) c.edges_into.ensures;
     }

@@ -25,7 +25,7 @@ graph_records-requires c =
       header_value = header;
       tasks_bound = (subst (λ (h : GraphHeader). h.tasks ≤ 64) (sym header) frame.at_most_64, subst (λ (h : GraphHeader). h.edges ≤ 256) (sym header) frame.at-most-256);
       processor_value = (refl, refl);
-      source_value = (refl, refl, refl);
+      ordering_value = refl;
     }
 
 pub returns-in_err-graph_records : goal.returns-in_err-graph_records
@@ -51,8 +51,6 @@ returns c =
         bound = ap (λ (h : GraphHeader). h.bound) header i;
         processor = lists.processors i;
         time = lists.times i;
-        source = lists.sources i;
-        sink = lists.sinks i;
-        delay = lists.delays i;
+        ordering = lists.orders i;
       };
     }

@@ -1,10 +1,9 @@
--- `readings::proposals::read_proposal` meets its contract: the first of the two groups of checks that fails is the answer, else the lists are those of
+-- `readings::proposals::read_proposal` meets its contract: the first of the two groups of checks that fails is the answer, else the list is that of
 -- the edges.
 use mathlib.Core.Path.{◌≡◌, refl, sym, ap, ◌∙◌, subst}
 use Prim.Native.Nat.{◌≤◌}
 use lib.ListN.{length}
 use Rattle.layout.specs.declared.ProposalHeader.{ProposalHeader}
-use Rattle.records.specs.Columns.{zeros}
 use Rattle.files.specs.Files.{proposal_of, proposal_refusal, proposed_edges_refusal}
 use Rattle.files.proofs.First.{ends_with, fault-number, gives-fault, goes_on, last-answer, number_same}
 use Rattle.readings.specs.Working.{working_proposal}
@@ -19,14 +18,13 @@ returns-in_err-check_proposal_frame c =
     gives-fault _ _ back.0 back.1 (sym (ends_with _ c.in_err-check_proposal_frame.ensures (fault-number _)))
 
 pub proposal_records-requires : goal.proposal_records-requires
-unfolding zeros
 proposal_records-requires c =
     let header = c.proposal_header-header.ensures in
     let frame = proposal-frame-passed c.args.bytes.now (number_same (sym c.in_ok-check_proposal_frame.ensures)) in
     record {
       header_value = header;
       edges_bound = subst (λ (h : ProposalHeader). h.edges ≤ 256) (sym header) frame.at-most-256;
-      source_value = (refl, refl, refl);
+      proposed_value = refl;
     }
 
 pub returns-in_err-proposal_records : goal.returns-in_err-proposal_records
@@ -44,5 +42,5 @@ returns c =
     let count : c.proposal_header-header.result.edges ≡ length (proposal_of s) = ap (λ (h : ProposalHeader). h.edges) c.proposal_header-header.ensures ∙ sym (proposal-count s) in
     record {
       refusal = sym (goes_on _ c.in_ok-check_proposal_frame.ensures refl ∙ (last-answer _ ∙ sym said.refusal));
-      value = λ i. record { edges = count i; source = said.source i; sink = said.sink i; delay = said.delay i };
+      value = λ i. record { edges = count i; proposed = said.proposed i };
     }
