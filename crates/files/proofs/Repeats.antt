@@ -1,23 +1,26 @@
--- 8's test and its refusal, and the comparison of two edges by the numbers that the lists hold of them: the test is true exactly if some earlier
+-- 8's test and its refusal, and the comparison of two edges by their records: the test is true exactly if some earlier
 -- edge is the same.
-use mathlib.Core.Path.{◌≡◌, sym, ap, ◌∙◌, subst}
-use mathlib.Core.Bool.{true, false, ◌&&◌}
+use mathlib.Core.Path.{◌≡◌, refl, sym, ap, ◌∙◌}
+use mathlib.Core.Bool.{true, false, ◌||◌}
 use mathlib.Core.List.{List}
-use Prim.Native.Nat.{ℕ, suc, ◌+◌, ◌<◌}
+use Prim.Native.Nat.{ℕ, zero, suc, ◌+◌, ◌<◌, ◌≤◌}
 use native.Mathlib.Numerals.{add-one}
 use native.Mathlib.Omega.{arith}
-use lib.Dec.{eqb}
-use lib.ListN.{length, get_or}
+use lib.ListN.{length, get_or, take}
+use Rattle.std.specs.List.{list_any}
+use Rattle.std.proofs.lemmas.List.Folds.{list_any_more}
+use Rattle.layout.specs.declared.EdgeRecord.{EdgeRecord}
 use Rattle.model.specs.Tasks.{Edge}
+use Rattle.model.specs.Lists.{any_below}
 use Rattle.model.specs.Compute.{same_edge}
 use Rattle.model.proofs.Basics.{any-in, any_out}
 use Rattle.model.proofs.Tests.{same-edge, decides-iff, decides-true, decides-yes}
 use Rattle.files.specs.Theorems.{RepeatsEarlierIs}
 use Rattle.files.specs.Refusals.{not_refused}
 use Rattle.files.specs.Files.{edge_in, repeats_earlier, repeat_refusal}
-use Rattle.records.specs.Columns.{SourcesOf, SinksOf, DelaysOf}
+use Rattle.records.specs.Columns.{edge_of, edges_in, no_record}
 use Rattle.files.proofs.First.{refused, not-refused}
-use Rattle.files.proofs.Single.{refusal}
+use Rattle.files.proofs.Single.{refusal, edge-is}
 
 pub repeats-earlier-is : RepeatsEarlierIs
 unfolding repeats_earlier
@@ -40,19 +43,18 @@ pub repeat-passes : (es : List Edge) (j : ℕ) → repeats_earlier es j ≡ fals
 unfolding repeat_refusal
 repeat-passes es j is = not-refused _ _ is
 
--- Equal edges have equal numbers in the lists, and the other way round.
-module _ (es : List Edge) {sources sinks delays : List ℕ} (from : SourcesOf es sources) (to : SinksOf es sinks) (turns : DelaysOf es delays)
-    (i j : ℕ) (earlier : i < j) (below : j < length sources) where
-  present : j < length es
-  present = subst (λ (n : ℕ). j < n) from.as_many below
+-- the comparison of two edges is that of their records
+pub same_records : (rs : List EdgeRecord) (i j : ℕ) →
+    same_edge (edge_in (edges_in rs) i) (edge_in (edges_in rs) j) ≡ same_edge (edge_of (get_or rs i no_record)) (edge_of (get_or rs j no_record))
+same_records rs i j = λ d. same_edge (edge-is rs i d) (edge-is rs j d)
 
-  -- the comparison of the three numbers is the comparison of the edges
-  pub same_numbers :
-      (eqb (get_or sources i 0) (get_or sources j 0) && (eqb (get_or sinks i 0) (get_or sinks j 0) && eqb (get_or delays i 0) (get_or delays j 0))) ≡
-      same_edge (edge_in es i) (edge_in es j)
-  unfolding same_edge edge_in
-  same_numbers =
-      let first : i < length es = omega (arith, present) in
-      λ d.
-      eqb (from.same i first d) (from.same j present d) &&
-      (eqb (to.same i first d) (to.same j present d) && eqb (turns.same i first d) (turns.same j present d))
+-- a search of the records for edge j's, over the first n, is one of the edges
+pub search-is : (rs : List EdgeRecord) (j n : ℕ) → n ≤ length rs →
+    list_any (λ r. same_edge (edge_of r) (edge_of (get_or rs j no_record))) (take n rs) ≡
+    any_below n (λ i. same_edge (edge_in (edges_in rs) i) (edge_in (edges_in rs) j))
+unfolding any_below
+search-is rs j zero l = refl
+search-is rs j (suc n) l =
+    ap (λ (m : ℕ). list_any (λ r. same_edge (edge_of r) (edge_of (get_or rs j no_record))) (take m rs)) (sym (add-one n)) ∙
+    (list_any_more (λ r. same_edge (edge_of r) (edge_of (get_or rs j no_record))) rs n no_record (omega arith) ∙
+    (λ d. search-is rs j n (omega arith) d || sym (same_records rs n j) d))

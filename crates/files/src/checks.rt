@@ -1,14 +1,16 @@
 // The checks of tasks and edges: each gives the first refusal over a list, in the file's sequence. The contracts speak of the tasks
-// and edges whose numbers the lists hold.
-ghost use Rattle.std.specs.Prelude.{◌≡◌, List, ◌+◌, ◌≤◌, ◌<◌, length};
-ghost use Rattle.model.specs.Tasks.{Task, Edge};
+// whose numbers the lists hold, and of the edges of the records.
+ghost use Rattle.std.specs.Prelude.{◌≡◌, ◌&&◌, List, ◌+◌, ◌≤◌, ◌<◌, eqb, length};
+ghost use Rattle.std.specs.List.{list_any};
+ghost use Rattle.model.specs.Tasks.{Task};
 ghost use Rattle.model.specs.Graph.{Graph};
 ghost use Rattle.files.specs.Refusals.{refusal_in};
 ghost use Rattle.files.specs.Files.{first_of, time_refusal, ends_refusal, edge_refusal, repeat_refusal, repeats_earlier, graph_records_refusal, proposed_edges_refusal};
 ghost use Rattle.files.specs.Repeated.{edge_place, SeenBefore};
-ghost use Rattle.records.specs.Columns.{ProcessorsOf, TimesOf, SourcesOf, SinksOf, DelaysOf};
+ghost use Rattle.records.specs.Columns.{ProcessorsOf, TimesOf, edges_in};
 
 use crate::Fault;
+use layout::EdgeRecord;
 
 // 5: the first task whose time is 0.
 fn check_times(time: &[u16]) -> Result<(), Fault>
@@ -24,14 +26,13 @@ fn check_times(time: &[u16]) -> Result<(), Fault>
 }
 
 // 6: the first edge with an end that is not below the number of tasks.
-fn check_ends<'a>(tasks: usize, source: &'a [u8], sink: &'a [u8]) -> Result<(), Fault>
-    requires source_len_bound { length source.now ≤ 256 }
-    requires sink_len { length sink.now ≡ length source.now }
-    ensures { (es : List Edge) → SourcesOf es source.now → SinksOf es sink.now → refusal_in result ≡ first_of (length es) (ends_refusal tasks es) }
+fn check_ends(tasks: usize, edges: &[EdgeRecord]) -> Result<(), Fault>
+    requires { length edges.now ≤ 256 }
+    ensures { refusal_in result ≡ first_of (length edges.now) (ends_refusal tasks (edges_in edges.now)) }
 {
-    for j in 0..source.len() {
-        let from = source[j] as usize;
-        let to = sink[j] as usize;
+    for (j, e) in edges.iter().enumerate() {
+        let from = e.source as usize;
+        let to = e.sink as usize;
         if from >= tasks || to >= tasks {
             return Err(Fault::EndOutside(j as u32 + 1));
         }
@@ -40,14 +41,13 @@ fn check_ends<'a>(tasks: usize, source: &'a [u8], sink: &'a [u8]) -> Result<(), 
 }
 
 // 6 then 7: the first edge with an end that is not below the number of tasks, or with both ends on one processor.
-fn check_edges<'a>(processor: &'a [u8], source: &'a [u8], sink: &'a [u8]) -> Result<(), Fault>
-    requires source_len_bound { length source.now ≤ 256 }
-    requires sink_len { length sink.now ≡ length source.now }
-    ensures { (ts : List Task) (es : List Edge) → ProcessorsOf ts processor.now → SourcesOf es source.now → SinksOf es sink.now → refusal_in result ≡ first_of (length es) (edge_refusal ts es) }
+fn check_edges<'a>(processor: &'a [u8], edges: &'a [EdgeRecord]) -> Result<(), Fault>
+    requires { length edges.now ≤ 256 }
+    ensures { (ts : List Task) → ProcessorsOf ts processor.now → refusal_in result ≡ first_of (length edges.now) (edge_refusal ts (edges_in edges.now)) }
 {
-    for j in 0..source.len() {
-        let from = source[j] as usize;
-        let to = sink[j] as usize;
+    for (j, e) in edges.iter().enumerate() {
+        let from = e.source as usize;
+        let to = e.sink as usize;
         if from >= processor.len() || to >= processor.len() {
             return Err(Fault::EndOutside(j as u32 + 1));
         }
@@ -58,64 +58,54 @@ fn check_edges<'a>(processor: &'a [u8], source: &'a [u8], sink: &'a [u8]) -> Res
     Ok(())
 }
 
-// Whether edge j has the source, sink and delay of an earlier one.
-fn repeats_earlier<'a>(source: &'a [u8], sink: &'a [u8], delay: &'a [u8], j: usize) -> bool
-    requires j_in_bounds { j < length source.now }
-    requires sink_len { length sink.now ≡ length source.now }
-    requires delay_len { length delay.now ≡ length source.now }
-    ensures { (es : List Edge) → SourcesOf es source.now → SinksOf es sink.now → DelaysOf es delay.now → result ≡ repeats_earlier es j }
+// Whether one of the edges has the source, sink and delay of the one sought.
+fn holds(edges: &[EdgeRecord], sought: EdgeRecord) -> bool
+    ensures { result ≡ list_any (λ e. eqb e.source sought.source && (eqb e.sink sought.sink && eqb e.delay sought.delay)) edges.now }
 {
-    let from = source[j];
-    let to = sink[j];
-    let late = delay[j];
-    let mut found = false;
-    for i in 0..j {
-        found |= (source[i] == from) & ((sink[i] == to) & (delay[i] == late));
-    }
-    found
+    edges.iter().any(|e| e.source == sought.source
+        && e.sink == sought.sink
+        && e.delay == sought.delay)
+}
+
+// Whether edge j has the source, sink and delay of an earlier one.
+fn repeats_earlier(edges: &[EdgeRecord], j: usize) -> bool
+    requires { j < length edges.now }
+    ensures { result ≡ repeats_earlier (edges_in edges.now) j }
+{
+    holds(&edges[..j], edges[j])
 }
 
 // The place of an edge's mark.
-fn edge_place(source: u8, sink: u8, delay: u8) -> usize
-    ensures { result ≡ edge_place source sink delay }
+fn edge_place(e: EdgeRecord) -> usize
+    ensures { result ≡ edge_place e }
 {
-    (source as usize * 64 + sink as usize + delay as usize * 1657) % 4096
+    (e.source as usize * 64 + e.sink as usize + e.delay as usize * 1657) % 4096
 }
 
 // Whether edge j has the source, sink and delay of an earlier one, where the place of each earlier one is marked; its own is marked too. The
 // earlier ones are compared only if it was marked before.
-fn repeats_seen<'a>(
-    source: &'a [u8],
-    sink: &'a [u8],
-    delay: &'a [u8],
-    j: usize,
-    seen: &mut [u8],
-) -> bool
-    requires j_in_bounds { j < length source.now }
-    requires sink_len { length sink.now ≡ length source.now }
-    requires delay_len { length delay.now ≡ length source.now }
-    requires seen_before { SeenBefore source.now sink.now delay.now j seen.old }
-    ensures value { (es : List Edge) → SourcesOf es source.now → SinksOf es sink.now → DelaysOf es delay.now → result ≡ repeats_earlier es j }
-    ensures seen_before_2 { SeenBefore source.now sink.now delay.now (j + 1) seen.new }
+fn repeats_seen(edges: &[EdgeRecord], j: usize, seen: &mut [bool]) -> bool
+    requires j_in_bounds { j < length edges.now }
+    requires seen_before { SeenBefore edges.now j seen.old }
+    ensures value { result ≡ repeats_earlier (edges_in edges.now) j }
+    ensures seen_before_2 { SeenBefore edges.now (j + 1) seen.new }
 {
-    let place = edge_place(source[j], sink[j], delay[j]);
-    if seen[place] == 0 {
-        seen[place] = 1;
+    let place = edge_place(edges[j]);
+    if !seen[place] {
+        seen[place] = true;
         return false;
     }
-    repeats_earlier(source, sink, delay, j)
+    repeats_earlier(edges, j)
 }
 
 // 8: the first edge that repeats an earlier one.
-fn check_repeats<'a>(source: &'a [u8], sink: &'a [u8], delay: &'a [u8]) -> Result<(), Fault>
-    requires source_len_bound { length source.now ≤ 256 }
-    requires sink_len { length sink.now ≡ length source.now }
-    requires delay_len { length delay.now ≡ length source.now }
-    ensures { (es : List Edge) → SourcesOf es source.now → SinksOf es sink.now → DelaysOf es delay.now → refusal_in result ≡ first_of (length es) (repeat_refusal es) }
+fn check_repeats(edges: &[EdgeRecord]) -> Result<(), Fault>
+    requires { length edges.now ≤ 256 }
+    ensures { refusal_in result ≡ first_of (length edges.now) (repeat_refusal (edges_in edges.now)) }
 {
-    let mut seen: [u8; 4096] = [0; 4096];
-    for j in 0..source.len() {
-        if repeats_seen(source, sink, delay, j, &mut seen) {
+    let mut seen = [false; 4096];
+    for j in 0..edges.len() {
+        if repeats_seen(edges, j, &mut seen) {
             return Err(Fault::RepeatedEdge(j as u32 + 1));
         }
     }
@@ -126,33 +116,22 @@ fn check_repeats<'a>(source: &'a [u8], sink: &'a [u8], delay: &'a [u8]) -> Resul
 pub fn check_records<'a>(
     processor: &'a [u8],
     time: &'a [u16],
-    source: &'a [u8],
-    sink: &'a [u8],
-    delay: &'a [u8],
+    edges: &'a [EdgeRecord],
 ) -> Result<(), Fault>
     requires time_len_bound { length time.now ≤ 64 }
-    requires source_len_bound { length source.now ≤ 256 }
-    requires sink_len { length sink.now ≡ length source.now }
-    requires delay_len { length delay.now ≡ length source.now }
-    ensures { (g : Graph) → ProcessorsOf g.tasks processor.now → TimesOf g.tasks time.now → SourcesOf g.syncs source.now → SinksOf g.syncs sink.now → DelaysOf g.syncs delay.now → refusal_in result ≡ graph_records_refusal g }
+    requires edges_bound { length edges.now ≤ 256 }
+    ensures { (g : Graph) → ProcessorsOf g.tasks processor.now → TimesOf g.tasks time.now → g.syncs ≡ edges_in edges.now → refusal_in result ≡ graph_records_refusal g }
 {
     check_times(time)?;
-    check_edges(processor, source, sink)?;
-    check_repeats(source, sink, delay)
+    check_edges(processor, edges)?;
+    check_repeats(edges)
 }
 
 // "each edge 6; then 8" of proposed edges.
-pub fn check_proposed<'a>(
-    tasks: usize,
-    source: &'a [u8],
-    sink: &'a [u8],
-    delay: &'a [u8],
-) -> Result<(), Fault>
-    requires source_len_bound { length source.now ≤ 256 }
-    requires sink_len { length sink.now ≡ length source.now }
-    requires delay_len { length delay.now ≡ length source.now }
-    ensures { (es : List Edge) → SourcesOf es source.now → SinksOf es sink.now → DelaysOf es delay.now → refusal_in result ≡ proposed_edges_refusal tasks es }
+pub fn check_proposed(tasks: usize, edges: &[EdgeRecord]) -> Result<(), Fault>
+    requires { length edges.now ≤ 256 }
+    ensures { refusal_in result ≡ proposed_edges_refusal tasks (edges_in edges.now) }
 {
-    check_ends(tasks, source, sink)?;
-    check_repeats(source, sink, delay)
+    check_ends(tasks, edges)?;
+    check_repeats(edges)
 }
