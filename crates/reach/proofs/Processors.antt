@@ -1,107 +1,79 @@
 -- Paths between processors are paths between their tasks: each edge joins the processors of its ends, and a path between processors becomes one of tasks
 -- by going around on each processor from where it is entered to where it is left.
 use mathlib.Core.Path.{◌≡◌, refl, sym, ap, ◌∙◌, subst}
-use mathlib.Core.List.{List, ◌∷◌}
+use mathlib.Core.List.Memᴰ.{head as here}
+use mathlib.Core.List.Memᴰ.{tail as there}
+use mathlib.Core.List.{List, [], ◌∷◌}
 use mathlib.Core.Option.{Option}
 use Prim.Native.Nat.{ℕ, ◌+◌, ◌<◌}
-use lib.ListN.{length, get_or}
+use Rattle.std.specs.Prelude.{map}
 use Rattle.model.specs.Tasks.{Edge, ◌∈◌, Ends}
 use Rattle.model.specs.Paths.{Walk, stop, step, Path, Least, smallest, no-path}
 use Rattle.model.specs.Compute.{present, least_delay}
 use Rattle.model.proofs.Walks.{path-edge, path-ends, path-append}
 use Rattle.model.proofs.Least.{least-delay}
-use Rattle.records.specs.Columns.{at, held_edge, edges_of}
-use Rattle.records.proofs.Fill.{length-tabulate, get_d_tabulate}
-use Rattle.records.proofs.Edges.{edge_in_lem, edge-out}
-use Rattle.reach.specs.Reach.{processors_of, Circled, Reaches, ReachesOn}
+use Rattle.records.specs.Columns.{at}
+use Rattle.reach.specs.Reach.{between, Circled, Reaches, ReachesOn}
 
-pub looked-up : (processor tasks : List ℕ) (j : ℕ) → j < length tasks → get_or (processors_of processor tasks) j 0 ≡ at processor (at tasks j)
-unfolding processors_of
-looked-up processor tasks j below = get_d_tabulate (length tasks) (λ i. at processor (at tasks i)) 0 j below
+map-in : (f : Edge → Edge) {e : Edge} {es : List Edge} → e ∈ es → f e ∈ map f es
+map-in f (here q) = here (ap f q)
+map-in f (there m) = there (map-in f m)
 
-pub as-many-processors : (processor tasks : List ℕ) → length (processors_of processor tasks) ≡ length tasks
-unfolding processors_of
-as-many-processors processor tasks = length-tabulate (length tasks) (λ i. at processor (at tasks i))
+map-out : (f : Edge → Edge) {x : Edge} (es : List Edge) → x ∈ map f es → (e : Edge) × (e ∈ es) × (x ≡ f e)
+map-out f [] m = elim m [ ]
+map-out f (e ∷ es) (here q) = (e, here refl, q)
+map-out f (e ∷ es) (there m) =
+    let r = map-out f es m in
+    (r.0, there r.1, r.2)
 
--- edges whose ends are tasks, place by place
-pub ends_held :
-    (source sink delay : List ℕ) (n : ℕ) → ((j : ℕ) → j < length source → (at source j < n) × (at sink j < n)) → Ends n (edges_of source sink delay)
-unfolding at held_edge
-ends_held source sink delay n held e m =
-    let r = edge-out source sink delay e m in
-    subst (λ (x : Edge). (x.source < n) × (x.sink < n)) (sym r.2) (held r.0 r.1)
-
-module _
-    (source sink delay processor : List ℕ) (n used : ℕ) (same : length sink ≡ length source) (ends : Ends n (edges_of source sink delay))
-    (few : (v : ℕ) → v < n → at processor v < used) where
-  abbrev es : List Edge
-  es = edges_of source sink delay
-
+module _ (es : List Edge) (processor : List ℕ) (n used : ℕ) (ends : Ends n es) (few : (v : ℕ) → v < n → at processor v < used) where
   abbrev qs : List Edge
-  qs = edges_of (processors_of processor source) (processors_of processor sink) delay
+  qs = map (between processor) es
 
-  -- the edge between processors that stands where an edge does
-  from : (i : ℕ) → i < length source → get_or (processors_of processor source) i 0 ≡ at processor (held_edge source sink delay i).source
-  unfolding held_edge at
-  from i below = looked-up processor source i below
+  -- the edge between processors that an edge is
+  place_in : {e : Edge} → e ∈ es → between processor e ∈ qs
+  place_in m = map-in (between processor) m
 
-  to : (i : ℕ) → i < length source → get_or (processors_of processor sink) i 0 ≡ at processor (held_edge source sink delay i).sink
-  unfolding held_edge at
-  to i below = looked-up processor sink i (subst (λ (k : ℕ). i < k) (sym same) below)
-
-  place_in : (i : ℕ) → i < length source → held_edge (processors_of processor source) (processors_of processor sink) delay i ∈ qs
-  place_in i below =
-      edge_in_lem (processors_of processor source) (processors_of processor sink) delay i (subst (λ (k : ℕ). i < k) (sym (as-many-processors processor source)) below)
-
-  -- where an edge between processors comes from
-  place_out : (f : Edge) → f ∈ qs → (i : ℕ) × (i < length source) × (f ≡ held_edge (processors_of processor source) (processors_of processor sink) delay i)
-  place_out f m =
-      let r = edge-out (processors_of processor source) (processors_of processor sink) delay f m in
-      (r.0, subst (λ (k : ℕ). r.0 < k) (as-many-processors processor source) r.1, r.2)
+  -- which edge an edge between processors comes from
+  place_out : (f : Edge) → f ∈ qs → (e : Edge) × (e ∈ es) × (f ≡ between processor e)
+  place_out f m = map-out (between processor) es m
 
   q-ends : Ends used qs
-  unfolding held_edge
+  unfolding between
   q-ends f m =
       let r = place_out f m in
-      let e = held_edge source sink delay r.0 in
-      let own = ends e (edge_in_lem source sink delay r.0 r.1) in
-      (subst (λ (k : ℕ). k < used) (sym (ap (λ (x : Edge). x.source) r.2 ∙ from r.0 r.1)) (few e.source own.0), subst (λ (k : ℕ). k < used) (sym (ap (λ (x : Edge). x.sink) r.2 ∙ to r.0 r.1)) (few e.sink own.1))
+      let own = ends r.0 r.1 in
+      subst (λ (x : Edge). (x.source < used) × (x.sink < used)) (sym r.2) (few r.0.source own.0, few r.0.sink own.1)
 
   -- ── From tasks to processors ──
 
-  edge-between : (e : Edge) → e ∈ es → (d : ℕ) × Path qs (at processor e.source) (at processor e.sink) d
-  unfolding held_edge
-  edge-between e m =
-      let r = edge-out source sink delay e m in
-      (get_or delay r.0 0, path-ends (from r.0 r.1 ∙ ap (λ (x : Edge). at processor x.source) (sym r.2)) (to r.0 r.1 ∙ ap (λ (x : Edge). at processor x.sink) (sym r.2)) (path-edge (place_in r.0 r.1)))
+  edge-between : (e : Edge) → e ∈ es → Path qs (at processor e.source) (at processor e.sink) e.delay
+  unfolding between
+  edge-between e m = path-edge (place_in m)
 
   along : {c a b : ℕ} {p : List Edge} → Walk es a p b → (d : ℕ) × Path qs c (at processor a) d → (d : ℕ) × Path qs c (at processor b) d
   along (stop q) r = (r.0, path-ends refl (ap (at processor) q) r.1)
   along (step {e = e} m q w) r =
-      let s = edge-between e m in
-      along w (r.0 + s.0, path-append r.1 (path-ends (ap (at processor) q) refl s.1))
+      along w (r.0 + e.delay, path-append r.1 (path-ends (ap (at processor) q) refl (edge-between e m)))
 
   to-processors : {a b d : ℕ} → Path es a b d → (d : ℕ) × Path qs (at processor a) (at processor b) d
   to-processors {a} {b} r = go r.walk
     where
       go : {e : Edge} {p : List Edge} → Walk es a (e ∷ p) b → (d : ℕ) × Path qs (at processor a) (at processor b) d
-      go (step {e = e} m q w) =
-          let s = edge-between e m in
-          along w (s.0, path-ends (ap (at processor) q) refl s.1)
+      go (step {e = e} m q w) = along w (e.delay, path-ends (ap (at processor) q) refl (edge-between e m))
 
   -- ── From processors to tasks ──
 
   module _ (circled : Circled n es processor) where
     -- an edge between processors, from any task of the first
     lifted : (f : Edge) → f ∈ qs → {a : ℕ} → a < n → at processor a ≡ f.source → (t : ℕ) × (t < n) × (at processor t ≡ f.sink) × (d : ℕ) × Path es a t d
-    unfolding held_edge
+    unfolding between
     lifted f m {a} below on =
         let r = place_out f m in
-        let e = held_edge source sink delay r.0 in
-        let member = edge_in_lem source sink delay r.0 r.1 in
-        let own = ends e member in
-        let round = circled a e.source below own.0 (on ∙ (ap (λ (x : Edge). x.source) r.2 ∙ from r.0 r.1)) in
-        (e.sink, own.1, sym (ap (λ (x : Edge). x.sink) r.2 ∙ to r.0 r.1), round.0 + e.delay, path-append round.1 (path-edge member))
+        let e = r.0 in
+        let own = ends e r.1 in
+        let round = circled a e.source below own.0 (on ∙ ap (λ (x : Edge). x.source) r.2) in
+        (e.sink, own.1, sym (ap (λ (x : Edge). x.sink) r.2), round.0 + e.delay, path-append round.1 (path-edge r.1))
 
     onward :
         {c a x y : ℕ} {p : List Edge} → Walk qs x p y → a < n → at processor a ≡ x → (d : ℕ) × Path es c a d

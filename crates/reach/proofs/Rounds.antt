@@ -13,11 +13,10 @@ use lib.Dec.{T, T_not, eqb, eqb→eq}
 use lib.ListN.{length, get_or, set, take, drop, replicate, length-append, length-drop, length-set, length-replicate, get_or-append, get_or-replicate}
 use Rattle.std.proofs.lemmas.List.{get_or-take}
 use lib.Seq.{get_or-set_same, get_or-set_other}
-use Rattle.model.specs.Lists.{put, keep, tabulate}
+use Rattle.model.specs.Lists.{put, keep}
 use Rattle.model.specs.Tasks.{Edge}
 use Rattle.model.specs.Compute.{lesser, plus, shortest, joins, through, least_delay, present}
 use Rattle.model.proofs.Basics.{cases, is_true, is_false, eq→eqb, below_suc}
-use Rattle.records.specs.Columns.{held_edge, edges_of}
 use Rattle.reach.specs.Reach.{bit, bit_in, Reaches, ReachesThrough, Merged}
 use Rattle.reach.proofs.Bits.{or-false, bit-zero}
 
@@ -54,17 +53,16 @@ present-more t (x ∷ es) e = go (t x) (present-more t es e)
 
 -- ── One edge after the other ──
 
--- the words after j edges
-pub record EdgesTaken (source sink : List ℕ) (j : ℕ) (words : List ℕ) : Type 0 where
+-- the words after these edges
+pub record EdgesTaken (es : List Edge) (words : List ℕ) : Type 0 where
   pub room : length words ≡ 16
-  pub edges :
-      (delay : List ℕ) (a b : ℕ) → a < 16 → bit_in words a b ≡ present (shortest (keep (joins a b) (tabulate j (held_edge source sink delay))))
+  pub edges : (a b : ℕ) → a < 16 → bit_in words a b ≡ present (shortest (keep (joins a b) es))
 
-pub taken_none : (source sink words : List ℕ) → words ≡ replicate 16 0 → EdgesTaken source sink 0 words
-unfolding tabulate keep shortest present
-taken_none source sink words blank = record {
+pub taken_none : (words : List ℕ) → words ≡ replicate 16 0 → EdgesTaken [] words
+unfolding keep shortest present
+taken_none words blank = record {
   room = ap length blank ∙ length-replicate {A = ℕ} 16 0;
-  edges = λ delay a b l.
+  edges = λ a b l.
       ap (λ (xs : List ℕ). bit_in xs a b) blank ∙ (ap (λ (word : ℕ). bit word b) (get_or-replicate {A = ℕ} 16 a 0 0 l) ∙ bit-zero b);
 }
 
@@ -86,32 +84,21 @@ edge-stored words from to word a b inside stored = go (cases (eqb from a))
         sym (ap (λ (x : Bool). bit_in words a b || (x && eqb to b)) (is_false (eqb from a) n) ∙ or-false (bit_in words a b))
 
 pub taken_more :
-    (source sink : List ℕ) (j word : ℕ) {words words' : List ℕ} → EdgesTaken source sink j words → words' ≡ set words (get_or source j 0) word
-    → get_or source j 0 < 16 → ((b : ℕ) → bit word b ≡ bit_in words (get_or source j 0) b || eqb (get_or sink j 0) b) → EdgesTaken source sink (j + 1) words'
-unfolding tabulate joins held_edge
-taken_more source sink j word {words} {words'} done is inside stored = record {
-  room = ap length is ∙ (length-set words (get_or source j 0) word ∙ done.room);
-  edges = λ delay a b l.
+    (es : List Edge) (e : Edge) (word : ℕ) {words : List ℕ} → EdgesTaken es words → e.source < 16
+    → ((b : ℕ) → bit word b ≡ bit_in words e.source b || eqb e.sink b) → EdgesTaken (es ++ (e ∷ [])) (set words e.source word)
+unfolding joins
+taken_more es e word {words} done inside stored = record {
+  room = length-set words e.source word ∙ done.room;
+  edges = λ a b l.
       let room : length words ≡ 16 = done.room in
-      let f = held_edge source sink delay in
       let t = joins a b in
-      ap (λ (xs : List ℕ). bit_in xs a b) is ∙
-      (edge-stored words (get_or source j 0) (get_or sink j 0) word a b (omega arith) (stored b) ∙
-      (ap (λ (x : Bool). x || (eqb (get_or source j 0) a && eqb (get_or sink j 0) b)) (done.edges delay a b l) ∙
-      (sym (present-more t (tabulate j f) (f j)) ∙
-      ap (λ (n : ℕ). present (shortest (keep t (tabulate n f)))) (sym (add-one j)))));
+      edge-stored words e.source e.sink word a b (omega arith) (stored b) ∙
+      (ap (λ (x : Bool). x || (eqb e.source a && eqb e.sink b)) (done.edges a b l) ∙ sym (present-more t es e));
 }
 
-pub taken-all :
-    (source sink : List ℕ) (j n : ℕ) {words : List ℕ} → EdgesTaken source sink j words → length source ≡ j → n ≤ 16 → (delay : List ℕ)
-    → ReachesThrough 0 n (edges_of source sink delay) words
-unfolding through edges_of
-taken-all source sink j n done whole few delay = record {
-  room = done.room;
-  paths = λ a b l m.
-      done.edges delay a b (omega arith) ∙
-      ap (λ (i : ℕ). present (shortest (keep (joins a b) (tabulate i (held_edge source sink delay))))) (sym whole);
-}
+pub taken-all : {n : ℕ} {es : List Edge} {words : List ℕ} → EdgesTaken es words → n ≤ 16 → ReachesThrough 0 n es words
+unfolding through
+taken-all done few = record { room = done.room; paths = λ a b l m. done.edges a b (omega arith) }
 
 -- ── One inner task after the other ──
 

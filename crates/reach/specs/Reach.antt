@@ -1,6 +1,5 @@
 -- Only for contracts inside: words hold which processors a path leads to. Between processors go edges too, whose ends are processors.
 use Rattle.std.specs.Prelude.{◌≡◌, Bool, ◌||◌, ◌&&◌, List, ℕ, ◌/◌, ◌%◌, ◌^◌, ◌<◌, eqb, length, get_or}
-use Rattle.model.specs.Lists.{tabulate}
 use Rattle.model.specs.Tasks.{Edge}
 use Rattle.model.specs.Paths.{Path}
 use Rattle.model.specs.Compute.{present, least_delay, through}
@@ -31,9 +30,9 @@ pub record Merged (n k : ℕ) (before after : List ℕ) : Type 0 where
 
 -- ── Between tasks ──
 
--- the processor of each task of a list
-unfoldable pub processors_of : List ℕ → List ℕ → List ℕ
-processors_of processor tasks = tabulate (length tasks) (λ j. at processor (at tasks j))
+-- an edge between the processors of its ends
+unfoldable pub between : List ℕ → Edge → Edge
+between processor e = record { source = at processor e.source; sink = at processor e.sink; delay = e.delay }
 
 -- paths of es lead from each of n tasks to each one of its processor
 abbrev pub Circled : ℕ → List Edge → List ℕ → Type 0

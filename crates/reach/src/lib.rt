@@ -1,10 +1,12 @@
 // Which processors a path leads to: a word for each, by Warshall's algorithm.
 #![tactic(auto)]
 
-ghost use Rattle.std.specs.Prelude.{◌≡◌, ◌||◌, ◌&&◌, List, ℕ, ◌≤◌, ◌<◌, eqb, length, get_or, replicate};
-ghost use Rattle.model.specs.Tasks.{Edge};
-ghost use Rattle.records.specs.Columns.{edges_of, at};
-ghost use Rattle.reach.specs.Reach.{bit, Reaches, ReachesThrough, Merged, processors_of, Circled, ReachesOn};
+ghost use Rattle.std.specs.Prelude.{◌≡◌, ◌||◌, ◌&&◌, List, ℕ, ◌≤◌, ◌<◌, eqb, map, length, get_or, replicate};
+ghost use Rattle.model.specs.Tasks.{Edge, Ends};
+ghost use Rattle.records.specs.Columns.{at, edges_in};
+ghost use Rattle.reach.specs.Reach.{bit, Reaches, ReachesThrough, Merged, between, Circled, ReachesOn};
+
+use layout::EdgeRecord;
 
 // Word a, bit b: a path leads from processor a to processor b.
 #[derive(Clone, Copy)]
@@ -66,16 +68,15 @@ pub fn processor_of(processor: &[u8], task: u8) -> usize
 }
 
 // Sets the bit of each edge, between the processors of its ends.
-fn take_between<'a>(source: &'a [u8], sink: &'a [u8], processor: &'a [u8], words: &mut [u64])
-    requires sink_len { length sink.now ≡ length source.now }
-    requires by_index { (j : ℕ) → j < length source.now → (at source.now j < length processor.now) × (at sink.now j < length processor.now) }
-    requires by_index_2 { (v : ℕ) → v < length processor.now → at processor.now v < 16 }
+fn take_between<'a>(edges: &'a [EdgeRecord], processor: &'a [u8], words: &mut [u64])
+    requires ends { Ends (length processor.now) (edges_in edges.now) }
+    requires by_index { (v : ℕ) → v < length processor.now → at processor.now v < 16 }
     requires words_value { words.old ≡ replicate 16 0 }
-    ensures { (delay : List ℕ) → ReachesThrough 0 16 (edges_of (processors_of processor.now source.now) (processors_of processor.now sink.now) delay) words.new }
+    ensures { ReachesThrough 0 16 (map (between processor.now) (edges_in edges.now)) words.new }
 {
-    for (from, to) in source.iter().zip(sink) {
-        let leaves = processor_of(processor, *from);
-        let enters = processor_of(processor, *to);
+    for e in edges {
+        let leaves = processor_of(processor, e.source);
+        let enters = processor_of(processor, e.sink);
         words[leaves] = with_bit(words[leaves], enters);
     }
 }
@@ -91,14 +92,13 @@ fn processors_used(processor: &[u8]) -> usize
 
 // Between which processors a path leads, and so between which tasks, where tasks of one processor lead to one another: rounds over the processors used,
 // at most 16, serve 64 tasks.
-pub fn paths_between_processors<'a>(source: &'a [u8], sink: &'a [u8], processor: &'a [u8]) -> Reach
-    requires sink_len { length sink.now ≡ length source.now }
-    requires by_index { (j : ℕ) → j < length source.now → (at source.now j < length processor.now) × (at sink.now j < length processor.now) }
-    requires by_index_2 { (v : ℕ) → v < length processor.now → at processor.now v < 16 }
-    ensures { (delay : List ℕ) → Circled (length processor.now) (edges_of source.now sink.now delay) processor.now → ReachesOn (length processor.now) (edges_of source.now sink.now delay) processor.now result.words }
+pub fn paths_between_processors<'a>(edges: &'a [EdgeRecord], processor: &'a [u8]) -> Reach
+    requires ends { Ends (length processor.now) (edges_in edges.now) }
+    requires by_index { (v : ℕ) → v < length processor.now → at processor.now v < 16 }
+    ensures { Circled (length processor.now) (edges_in edges.now) processor.now → ReachesOn (length processor.now) (edges_in edges.now) processor.now result.words }
 {
     let mut words = [0; 16];
-    take_between(source, sink, processor, &mut words);
+    take_between(edges, processor, &mut words);
     let used = processors_used(processor);
     merge_all(used, &mut words);
     Reach { words }
