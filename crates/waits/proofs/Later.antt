@@ -10,21 +10,22 @@ use native.Mathlib.Omega.{arith}
 use lib.ListN.{length, get_or, set}
 use lib.Seq.{get_or-set_same, get_or-set_other}
 use borrow.Author.Tests.{le-leb, lt-leb}
+use Rattle.layout.specs.declared.EdgeRecord.{EdgeRecord}
 use Rattle.model.specs.Lists.{counted}
 use Rattle.model.specs.Tasks.{Edge}
 use Rattle.model.proofs.Basics.{order}
-use Rattle.records.specs.Columns.{held_edge, edges_of}
-use Rattle.records.proofs.Edges.{edge_in_lem, edge-out}
+use Rattle.records.specs.Columns.{edge_of, edges_in, no_record}
+use Rattle.records.proofs.EdgesIn.{record-in, record-out}
 use Rattle.waits.specs.Later.{StandsFor, LaterEdges, asked_end}
 
-module _ (source sink delay : List ℕ) (n : ℕ) (time : ℕ → ℕ) (turns : ℕ) where
+module _ (edges : List EdgeRecord) (n : ℕ) (time : ℕ → ℕ) (turns : ℕ) where
   -- the delay at a place lets one of the turns wait
   abbrev pub Waits : ℕ → Type 0
-  Waits i = (0 < get_or delay i 0) × (get_or delay i 0 < turns)
+  Waits i = (0 < (get_or edges i no_record).delay) × ((get_or edges i no_record).delay < turns)
 
   -- entry k of three lists stands for the edge at place i
   abbrev Entry : ℕ → List ℕ → List ℕ → List ℕ → ℕ → Type 0
-  Entry i back lastings sinks k = StandsFor n time (held_edge source sink delay i) (get_or back k 0) (get_or lastings k 0) (get_or sinks k 0)
+  Entry i back lastings sinks k = StandsFor n time (edge_of (get_or edges i no_record)) (get_or back k 0) (get_or lastings k 0) (get_or sinks k 0)
 
   pub record LateBelow (j : ℕ) (back lastings sinks : List ℕ) (count : ℕ) : Type 0 where
     pub few : count ≤ j
@@ -51,19 +52,19 @@ module _ (source sink delay : List ℕ) (n : ℕ) (time : ℕ → ℕ) (turns : 
         whole i l waits (inl from) = let same : i ≡ j = omega arith in absurd (not (subst Waits same waits))
         whole i l waits (inr below) = so_far.whole i below waits
 
-    module _ (waits : Waits j) (b w t : ℕ) (stands : StandsFor n time (held_edge source sink delay j) b w t) (room : count < length back)
+    module _ (waits : Waits j) (b w t : ℕ) (stands : StandsFor n time (edge_of (get_or edges j no_record)) b w t) (room : count < length back)
         (room-lasting : count < length lastings) (room-sink : count < length sinks)
       where
         last : Entry j (set back count b) (set lastings count w) (set sinks count t) count
         last = (
-          ap (λ (x : ℕ). x + (held_edge source sink delay j).source) (get_or-set_same back count b 0 room) ∙ stands.0,
+          ap (λ (x : ℕ). x + (edge_of (get_or edges j no_record)).source) (get_or-set_same back count b 0 room) ∙ stands.0,
           get_or-set_same lastings count w 0 room-lasting ∙ stands.1,
           get_or-set_same sinks count t 0 room-sink ∙ stands.2,
         )
 
         kept : (i k : ℕ) → k < count → Entry i back lastings sinks k → Entry i (set back count b) (set lastings count w) (set sinks count t) k
         kept i k l old = (
-          ap (λ (x : ℕ). x + (held_edge source sink delay i).source) (get_or-set_other back count k b 0 (λ q. omega arith)) ∙ old.0,
+          ap (λ (x : ℕ). x + (edge_of (get_or edges i no_record)).source) (get_or-set_other back count k b 0 (λ q. omega arith)) ∙ old.0,
           get_or-set_other lastings count k w 0 (λ q. omega arith) ∙ old.1,
           get_or-set_other sinks count k t 0 (λ q. omega arith) ∙ old.2,
         )
@@ -97,15 +98,15 @@ module _ (source sink delay : List ℕ) (n : ℕ) (time : ℕ → ℕ) (turns : 
                 (entry.0, omega arith, kept i entry.0 inside entry.2)
 
     -- after all edges
-    pub late-all : length source ≤ j → j ≤ length source → LaterEdges (edges_of source sink delay) n time turns back lastings sinks count
-    unfolding held_edge
+    pub late-all : length edges ≤ j → j ≤ length edges → LaterEdges (edges_in edges) n time turns back lastings sinks count
+    unfolding edge_of
     late-all all within = record {
       sound = λ k l.
           let entry = so_far.sound k l in
           let below = entry.1 in
-          (held_edge source sink delay entry.0, edge_in_lem source sink delay entry.0 (omega arith), entry.2.0, entry.2.1, entry.3);
+          (edge_of (get_or edges entry.0 no_record), record-in edges entry.0 (omega arith), entry.2.0, entry.2.1, entry.3);
       whole = λ e m later soon.
-          let place = edge-out source sink delay e m in
+          let place = record-out edges e m in
           let below = place.1 in
           let late = ap (λ (x : Edge). x.delay) place.2 in
           let entry = so_far.whole place.0 (omega arith) (omega arith, omega arith) in

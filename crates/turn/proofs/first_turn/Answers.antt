@@ -8,7 +8,7 @@ use native.Mathlib.Omega.{arith}
 use lib.ListN.{length}
 use Rattle.model.specs.Compute.{zero_cycle}
 use Rattle.model.proofs.Earliest.{depth}
-use Rattle.records.specs.Columns.{edges_of, at}
+use Rattle.records.specs.Columns.{edges_in, at}
 use Rattle.sets.proofs.Graphs.{zero-sets, holds}
 use Rattle.sets.proofs.Words.{ends-small, crossed}
 use Rattle.turn.specs.Turn.{Turned}
@@ -22,8 +22,7 @@ use Rattle.turn.proofs.first_turn.Goals.{then-walk-row, else-walk-row}
 pub take_edges-requires : goal.take_edges-requires
 take_edges-requires c =
     record {
-      sink_len = c.requires.sink_len;
-      by_index = ends-small c.args.source.now c.args.sink.now c.args.delay.now c.requires.time_len.1 c.requires.ends;
+      by_index = ends-small c.args.edges.now c.requires.time_len.1 c.requires.ends;
       sinks_value = (refl, refl);
     }
 
@@ -39,7 +38,7 @@ walk_tasks-walk-requires c =
 pub returns-clause-turned : goal.returns-clause-turned
 returns-clause-turned c =
     let n = length c.args.row.now in
-    let es = edges_of c.args.source.now c.args.sink.now c.args.delay.now in
+    let es = edges_in c.args.edges.now in
     let few = c.requires.time_len.1 in
     let ends = c.requires.ends in
     let walk = c.walk_tasks-walk.ensures in

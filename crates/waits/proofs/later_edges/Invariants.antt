@@ -4,5 +4,5 @@ use Rattle.records.specs.Columns.{at}
 use Rattle.waits.proofs.Later.{LateBelow}
 use Rattle.waits.proofs.later_edges.Given as goal
 
-abbrev pub invariant-loop-j : goal.invariant-loop-j
-invariant-loop-j l = LateBelow l.source l.sink l.delay (length l.time) (at l.time) l.turns l.j l.back l.lasting l.to_sink l.count
+abbrev pub invariant-loop-e : goal.invariant-loop-e
+invariant-loop-e l = LateBelow l.edges (length l.time) (at l.time) l.turns l.e-index l.back l.lasting l.to_sink l.count
