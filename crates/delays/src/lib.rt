@@ -6,11 +6,12 @@
 ghost use Rattle.std.specs.Prelude.{◌≡◌, true, ◌||◌, List, ◌++◌, ℕ, ◌+◌, ◌*◌, ◌≤◌, ◌<◌, min, eqb, length, get_or, drop, replicate};
 ghost use Rattle.model.specs.Tasks.{Edge};
 ghost use Rattle.model.specs.Compute.{present, least_delay};
-ghost use Rattle.records.specs.Columns.{edges_of};
+ghost use Rattle.records.specs.Columns.{edges_in};
 ghost use Rattle.reach.specs.Reach.{bit};
 ghost use Rattle.delays.specs.Delays.{delay_row, delay_table, with_row, Fit};
 ghost use Rattle.delays.specs.Rows.{RowCopied, Low, StepsOf, Known, Relaxed, Scanned, Unscanned, widened};
 
+use layout::EdgeRecord;
 use reach::{has_bit, with_bit};
 
 // No path, in a finished row.
@@ -39,15 +40,14 @@ pub fn nearer(a: u16, b: u16) -> u16
 }
 
 // Takes the delay of the least edge between each two tasks into a square where no edge is yet.
-pub fn take_steps<'a>(source: &'a [u8], sink: &'a [u8], delay: &'a [u8], square: &mut [u16])
-    requires sink_len { (length sink.now ≡ length source.now) × (length delay.now ≡ length source.now) }
-    requires fit { Fit 64 (edges_of source.now sink.now delay.now) }
+pub fn take_steps(edges: &[EdgeRecord], square: &mut [u16])
+    requires fit { Fit 64 (edges_in edges.now) }
     requires square_value { square.old ≡ replicate 4096 16383 }
-    ensures { StepsOf (edges_of source.now sink.now delay.now) square.new }
+    ensures { StepsOf (edges_in edges.now) square.new }
 {
-    for j in 0..source.len() {
-        let at = source[j] as usize * WIDTH + sink[j] as usize;
-        square[at] = square[at].min(delay[j] as u16);
+    for e in edges {
+        let at = e.source as usize * WIDTH + e.sink as usize;
+        square[at] = square[at].min(e.delay as u16);
     }
 }
 
@@ -184,20 +184,13 @@ fn fill_row<'a>(
 
 // The least delays from each task to each, row by row at the front of a list, each row finished before the next is begun; elements past them keep what they
 // held. The last task's row comes first: edges on a processor lead to later tasks, whose rows then serve.
-pub fn least_table<'a>(
-    source: &'a [u8],
-    sink: &'a [u8],
-    delay: &'a [u8],
-    tasks: usize,
-    table: &mut [u16],
-)
-    requires sink_len { (length sink.now ≡ length source.now) × (length delay.now ≡ length source.now) }
+pub fn least_table(edges: &[EdgeRecord], tasks: usize, table: &mut [u16])
     requires tasks_bound { (tasks ≤ 64) × (tasks * tasks ≤ length table.old) }
-    requires fit { Fit tasks (edges_of source.now sink.now delay.now) }
-    ensures { table.new ≡ delay_table tasks (edges_of source.now sink.now delay.now) ++ drop (tasks * tasks) table.old }
+    requires fit { Fit tasks (edges_in edges.now) }
+    ensures { table.new ≡ delay_table tasks (edges_in edges.now) ++ drop (tasks * tasks) table.old }
 {
     let mut known = [FAR; 4096];
-    take_steps(source, sink, delay, &mut known);
+    take_steps(edges, &mut known);
     let mut done = 0;
     for a in (0..tasks).rev() {
         done = fill_row(a, tasks, done, &mut known, table);

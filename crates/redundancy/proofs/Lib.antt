@@ -3,4 +3,5 @@ pub mod Between
 pub mod Graphs
 pub mod Rule
 pub mod Sums
+pub mod Turned
 pub mod Words

@@ -1,11 +1,12 @@
 -- Only for contracts inside: redundant edges of a list, and what the rule asks of its edges; lists hold edges, their least delays and the single steps of
 -- the edges turned round, so that a row has the last steps of paths to a task.
-use Rattle.std.specs.Prelude.{◌≡◌, Bool, ◌&&◌, List, ℕ, ◌+◌, ◌≤◌, ◌<◌, min, ltb, length, get_or}
+use Rattle.std.specs.Prelude.{◌≡◌, Bool, ◌&&◌, List, ℕ, ◌+◌, ◌≤◌, ◌<◌, min, ltb, map, length, get_or}
 use Rattle.model.specs.Lists.{without}
 use Rattle.model.specs.Tasks.{Edge, ◌∈◌, no_edge}
 use Rattle.model.specs.Paths.{NoZeroCycle}
 use Rattle.model.specs.Compute.{order_holds}
-use Rattle.records.specs.Columns.{edges_of}
+use Rattle.layout.specs.declared.EdgeRecord.{EdgeRecord}
+use Rattle.records.specs.Columns.{edges_in}
 use Rattle.delays.specs.Delays.{delay_table, Fit}
 use Rattle.delays.specs.Rows.{StepsOf}
 
@@ -18,15 +19,17 @@ pub record Apart (n : ℕ) (es : List Edge) : Type 0 where
   pub no_zero_cycle : NoZeroCycle es
   pub once : (i : ℕ) → n + i < length es → get_or es (n + i) no_edge ∈ without (n + i) es → ⊥
 
--- Three lists hold edges between n tasks, at most 64, that the rule holds of, a fourth the table of their least delays, a fifth the last steps.
-pub record Tabled (n : ℕ) (source sink delay table last : List ℕ) : Type 0 where
-  pub sinks : length sink ≡ length source
-  pub delays : length delay ≡ length source
+-- an edge record turned round
+unfoldable pub turned : EdgeRecord → EdgeRecord
+turned r = record { source = r.sink; sink = r.source; delay = r.delay }
+
+-- A list holds edges between n tasks, at most 64, that the rule holds of, a second the table of their least delays, a third the last steps.
+pub record Tabled (n : ℕ) (rs : List EdgeRecord) (table last : List ℕ) : Type 0 where
   pub few : n ≤ 64
-  pub fit : Fit n (edges_of source sink delay)
-  pub apart : Apart n (edges_of source sink delay)
-  pub least : table ≡ delay_table n (edges_of source sink delay)
-  pub steps : StepsOf (edges_of sink source delay) last
+  pub fit : Fit n (edges_in rs)
+  pub apart : Apart n (edges_in rs)
+  pub least : table ≡ delay_table n (edges_in rs)
+  pub steps : StepsOf (edges_in (map turned rs)) last
 
 -- a least delay, cut at 16,383, and a last step
 abbrev pub sum_at : List ℕ → ℕ → List ℕ → ℕ → ℕ → ℕ

@@ -3,14 +3,28 @@
 // So a row of least delays out of s and a row of last steps to t are added, entry by entry, and the least sum is held to d.
 #![tactic(auto)]
 
-ghost use Rattle.std.specs.Prelude.{◌≡◌, ℕ, ◌+◌, ◌≤◌, ◌<◌, length, get_or};
-ghost use Rattle.records.specs.Columns.{edges_of};
+ghost use Rattle.std.specs.Prelude.{◌≡◌, ℕ, ◌+◌, ◌≤◌, ◌<◌, map, length, get_or, replicate};
+ghost use Rattle.records.specs.Columns.{edges_in};
 ghost use Rattle.delays.specs.Delays.{delay_table, Fit};
+ghost use Rattle.delays.specs.Rows.{StepsOf};
 ghost use Rattle.marks.specs.Marks.{marks_of};
-ghost use Rattle.redundancy.specs.Redundancy.{redundant_in, Apart, Tabled, LeastSum};
+ghost use Rattle.redundancy.specs.Redundancy.{redundant_in, turned, Apart, Tabled, LeastSum};
 
-use delays::{FAR, WIDTH, nearer, take_steps};
+use delays::{FAR, WIDTH, nearer};
+use layout::EdgeRecord;
 use marks::Marks;
+
+// Takes the delay of the least edge between each two tasks into a square where no edge is yet, the edges turned round: row t has the last steps to task t.
+fn take_last_steps(edges: &[EdgeRecord], square: &mut [u16])
+    requires fit { Fit 64 (edges_in edges.now) }
+    requires square_value { square.old ≡ replicate 4096 16383 }
+    ensures { StepsOf (edges_in (map turned edges.now)) square.new }
+{
+    for e in edges {
+        let at = e.sink as usize * WIDTH + e.source as usize;
+        square[at] = square[at].min(e.delay as u16);
+    }
+}
 
 // The least of the sums of a row of least delays and a row of last steps, FAR where none is less.
 fn least_sum<'a>(table: &'a [u16], from: usize, last: &'a [u16], to: usize, tasks: usize) -> u16
@@ -27,46 +41,38 @@ fn least_sum<'a>(table: &'a [u16], from: usize, last: &'a [u16], to: usize, task
 
 // Whether edge `own` is redundant.
 fn is_redundant<'a>(
-    source: &'a [u8],
-    sink: &'a [u8],
-    delay: &'a [u8],
+    edges: &'a [EdgeRecord],
     table: &'a [u16],
     tasks: usize,
     last: &'a [u16],
     own: usize,
 ) -> bool
-    requires own_in_bounds { own < length source.now }
-    requires tabled { Tabled tasks source.now sink.now delay.now table.now last.now }
-    ensures { (i : ℕ) → own ≡ tasks + i → result ≡ redundant_in tasks (edges_of source.now sink.now delay.now) i }
+    requires own_in_bounds { own < length edges.now }
+    requires tabled { Tabled tasks edges.now table.now last.now }
+    ensures { (i : ℕ) → own ≡ tasks + i → result ≡ redundant_in tasks (edges_in edges.now) i }
 {
-    let from = source[own] as usize * tasks;
-    let to = sink[own] as usize;
-    let most = delay[own] as u16;
+    let e = edges[own];
+    let from = e.source as usize * tasks;
+    let to = e.sink as usize;
+    let most = e.delay as u16;
     table[from + to] < most || least_sum(table, from, last, to * WIDTH, tasks) <= most
 }
 
 // The marks of the redundant edges among those behind the first `tasks`, which are the processors'. There must be no cycle of delay 0.
-pub fn redundant_marks<'a>(
-    source: &'a [u8],
-    sink: &'a [u8],
-    delay: &'a [u8],
-    table: &'a [u16],
-    tasks: usize,
-) -> Marks
-    requires sink_len { (length sink.now ≡ length source.now) × (length delay.now ≡ length source.now) }
-    requires tasks_bound { (tasks ≤ 64) × (length source.now ≤ 320) }
-    requires fit { Fit tasks (edges_of source.now sink.now delay.now) }
-    requires apart { Apart tasks (edges_of source.now sink.now delay.now) }
-    requires table_value { table.now ≡ delay_table tasks (edges_of source.now sink.now delay.now) }
-    ensures { result ≡ marks_of (redundant_in tasks (edges_of source.now sink.now delay.now)) }
+pub fn redundant_marks<'a>(edges: &'a [EdgeRecord], table: &'a [u16], tasks: usize) -> Marks
+    requires tasks_bound { (tasks ≤ 64) × (length edges.now ≤ 320) }
+    requires fit { Fit tasks (edges_in edges.now) }
+    requires apart { Apart tasks (edges_in edges.now) }
+    requires table_value { table.now ≡ delay_table tasks (edges_in edges.now) }
+    ensures { result ≡ marks_of (redundant_in tasks (edges_in edges.now)) }
 {
     let mut last = [FAR; 4096];
-    take_steps(sink, source, delay, &mut last);
+    take_last_steps(edges, &mut last);
     // There are 256 marks, the first of each word its most significant bit.
-    let edges = source.len().saturating_sub(tasks).min(256);
+    let count = edges.len().saturating_sub(tasks).min(256);
     let mut words = [0; 4];
-    for i in 0..edges {
-        if is_redundant(source, sink, delay, table, tasks, &last, tasks + i) {
+    for i in 0..count {
+        if is_redundant(edges, table, tasks, &last, tasks + i) {
             words[i / 64] |= 1 << (63 - i % 64);
         }
     }

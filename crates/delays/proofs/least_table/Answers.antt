@@ -4,24 +4,24 @@ use mathlib.Core.Path.{◌≡◌, refl, sym, ap, ◌∙◌}
 use mathlib.Core.List.{List}
 use Prim.Native.Nat.{ℕ, suc, ◌-◌, ◌<◌}
 use native.Mathlib.Omega.{arith}
-use Rattle.records.specs.Columns.{edges_of}
+use Rattle.records.specs.Columns.{edges_in}
 use Rattle.delays.specs.Delays.{with_row, rows_from}
 use Rattle.delays.proofs.Table.{rows_none, rows_next, rows_all}
 use Rattle.delays.proofs.Steps.{fit_wide, steps-known}
 use Rattle.delays.proofs.least_table.Goals as goal
 
 pub take_steps-requires : goal.take_steps-requires
-take_steps-requires c = record { sink_len = c.requires.sink_len; fit = fit_wide c.requires.tasks_bound.0 c.requires.fit; square_value = refl }
+take_steps-requires c = record { fit = fit_wide c.requires.tasks_bound.0 c.requires.fit; square_value = refl }
 
 pub loop-a-init : goal.loop-a-init
-loop-a-init c = (refl, steps-known c.requires.tasks_bound.0 c.requires.fit c.take_steps.ensures, sym (rows_none c.args.tasks (edges_of c.args.source.now c.args.sink.now c.args.delay.now) c.args.table.now))
+loop-a-init c = (refl, steps-known c.requires.tasks_bound.0 c.requires.fit c.take_steps.ensures, sym (rows_none c.args.tasks (edges_in c.args.edges.now) c.args.table.now))
 
 pub fill_row-done-requires : goal.fill_row-done-requires
-fill_row-done-requires c = (omega arith, omega (arith, c.requires.tasks_bound.1), (edges_of c.args.source.now c.args.sink.now c.args.delay.now, c.loop-a.invariant.1))
+fill_row-done-requires c = (omega arith, omega (arith, c.requires.tasks_bound.1), (edges_in c.args.edges.now, c.loop-a.invariant.1))
 
 pub loop-a-preserved : goal.loop-a-preserved
 loop-a-preserved c =
-    let es = edges_of c.args.source.now c.args.sink.now c.args.delay.now in
+    let es = edges_in c.args.edges.now in
     let inner : c.loop-a.a - 1 < c.args.tasks = omega arith in
     let last : c.loop-a.a ≡ suc (c.loop-a.a - 1) = omega arith in (
       omega (arith, c.loop-a.invariant.0),
@@ -35,4 +35,4 @@ loop-a-preserved c =
 pub returns : goal.returns
 returns c =
     let none : c.loop-a.a ≡ 0 = omega (arith, c.loop-a-test.false) in
-    c.loop-a.invariant.2 ∙ (ap (λ (k : ℕ). rows_from c.args.tasks (edges_of c.args.source.now c.args.sink.now c.args.delay.now) k c.args.table.now) none ∙ rows_all c.args.tasks (edges_of c.args.source.now c.args.sink.now c.args.delay.now) c.args.table.now c.requires.tasks_bound.1)
+    c.loop-a.invariant.2 ∙ (ap (λ (k : ℕ). rows_from c.args.tasks (edges_in c.args.edges.now) k c.args.table.now) none ∙ rows_all c.args.tasks (edges_in c.args.edges.now) c.args.table.now c.requires.tasks_bound.1)

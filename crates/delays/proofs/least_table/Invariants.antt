@@ -2,10 +2,10 @@
 -- it was.
 use mathlib.Core.Path.{◌≡◌}
 use lib.ListN.{length}
-use Rattle.records.specs.Columns.{edges_of}
+use Rattle.records.specs.Columns.{edges_in}
 use Rattle.delays.specs.Delays.{rows_from}
 use Rattle.delays.specs.Rows.{Known}
 use Rattle.delays.proofs.least_table.Given as goal
 
 abbrev pub invariant-loop-a : goal.invariant-loop-a
-invariant-loop-a l = (length l.table ≡ length l.initial.table) × Known l.tasks (edges_of l.source l.sink l.delay) l.done l.known × (l.table ≡ rows_from l.tasks (edges_of l.source l.sink l.delay) l.a l.initial.table)
+invariant-loop-a l = (length l.table ≡ length l.initial.table) × Known l.tasks (edges_in l.edges) l.done l.known × (l.table ≡ rows_from l.tasks (edges_in l.edges) l.a l.initial.table)

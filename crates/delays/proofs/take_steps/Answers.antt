@@ -3,24 +3,21 @@ use native.Mathlib.Omega.{arith}
 use Rattle.delays.proofs.Steps.{fit_at, none-taken, one-taken, all-taken}
 use Rattle.delays.proofs.take_steps.Goals as goal
 
-pub loop-j-init : goal.loop-j-init
-loop-j-init c =
-    none-taken c.args.source.now c.args.sink.now c.args.delay.now c.requires.square_value
+pub loop-e-init : goal.loop-e-init
+loop-e-init c = none-taken c.args.edges.now c.requires.square_value
 
 pub bounds-square-at : goal.bounds-square-at
 bounds-square-at c =
-    let place = fit_at c.args.source.now c.args.sink.now c.args.delay.now c.loop-j.j c.requires.fit c.loop-j-test.true in
-    omega (arith, place, c.loop-j.invariant.size)
+    let place = fit_at c.args.edges.now c.loop-e.e-index c.requires.fit c.loop-e-test.true in
+    omega (arith, place, c.loop-e.invariant.size)
 
-pub bounds-square-at-in-loop-j : goal.bounds-square-at-in-loop-j
-bounds-square-at-in-loop-j c =
-    let place = fit_at c.args.source.now c.args.sink.now c.args.delay.now c.loop-j.j c.requires.fit c.loop-j-test.true in
-    omega (arith, place, c.loop-j.invariant.size)
+pub bounds-square-at-in-loop-e : goal.bounds-square-at-in-loop-e
+bounds-square-at-in-loop-e c =
+    let place = fit_at c.args.edges.now c.loop-e.e-index c.requires.fit c.loop-e-test.true in
+    omega (arith, place, c.loop-e.invariant.size)
 
-pub loop-j-preserved : goal.loop-j-preserved
-loop-j-preserved c =
-    one-taken c.args.source.now c.args.sink.now c.args.delay.now c.requires.fit c.loop-j-test.true c.loop-j.invariant c.min.ensures
+pub loop-e-preserved : goal.loop-e-preserved
+loop-e-preserved c = one-taken c.args.edges.now c.requires.fit c.loop-e-test.true c.loop-e.invariant c.min.ensures
 
 pub returns : goal.returns
-returns c =
-    all-taken c.args.source.now c.args.sink.now c.args.delay.now c.loop-j-test.false c.loop-j.invariant
+returns c = all-taken c.args.edges.now (omega (arith, c.loop-e-test.false)) c.loop-e.invariant

@@ -2,5 +2,5 @@
 use Rattle.delays.proofs.Steps.{StepsTaken}
 use Rattle.delays.proofs.take_steps.Given as goal
 
-abbrev pub invariant-loop-j : goal.invariant-loop-j
-invariant-loop-j l = StepsTaken l.source l.sink l.delay l.j l.square
+abbrev pub invariant-loop-e : goal.invariant-loop-e
+invariant-loop-e l = StepsTaken l.edges l.e-index l.square

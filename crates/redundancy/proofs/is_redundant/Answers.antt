@@ -3,17 +3,18 @@ use mathlib.Core.Path.{sym, ◌∙◌}
 use Prim.Native.Nat.{◌+◌, ◌*◌, ◌≤◌, ◌<◌}
 use lib.ListN.{length, get_or}
 use Rattle.model.proofs.Tests.{decides-yes, ltb-decides}
+use Rattle.records.specs.Columns.{no_record}
 use Rattle.redundancy.proofs.Rule.{places, small, marked-by-path, marked-by-sum}
 use Rattle.redundancy.proofs.is_redundant.Goals as goal
 use Rattle.redundancy.proofs.is_redundant.Goals.{Start}
 
 -- what is read for the edge stands in the lists
 at : (c : Start) →
-    (get_or c.args.source.now c.args.own 0 * c.args.tasks + get_or c.args.sink.now c.args.own 0 < length c.args.table.now)
-    × (get_or c.args.source.now c.args.own 0 * c.args.tasks + c.args.tasks ≤ length c.args.table.now)
-    × (get_or c.args.sink.now c.args.own 0 * 64 + c.args.tasks ≤ length c.args.last.now)
+    ((get_or c.args.edges.now c.args.own no_record).source * c.args.tasks + (get_or c.args.edges.now c.args.own no_record).sink < length c.args.table.now)
+    × ((get_or c.args.edges.now c.args.own no_record).source * c.args.tasks + c.args.tasks ≤ length c.args.table.now)
+    × ((get_or c.args.edges.now c.args.own no_record).sink * 64 + c.args.tasks ≤ length c.args.last.now)
     × (length c.args.table.now ≤ 4096)
-    × (get_or c.args.sink.now c.args.own 0 < 64)
+    × ((get_or c.args.edges.now c.args.own no_record).sink < 64)
 at c = places c.requires.tabled c.args.own c.requires.own_in_bounds
 
 pub least_sum-requires : goal.least_sum-requires
