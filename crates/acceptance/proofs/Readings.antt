@@ -16,7 +16,7 @@ use Rattle.acceptance.specs.Acceptance.{AcceptedReading}
 use Rattle.acceptance.proofs.Fronts.{front, front_edges, Fronts, Within, file-times, working-is, working-within, working-few, working-square, working-fit}
 
 -- how long the front of a list is
-pub front_length : (n : ℕ) (xs : List ℕ) {room : ℕ} → length xs ≡ room → n ≤ room → length (front n xs) ≡ n
+pub front_length : {A : Type 0} (n : ℕ) (xs : List A) {room : ℕ} → length xs ≡ room → n ≤ room → length (front n xs) ≡ n
 front_length n xs is within = ap length (ap (λ (k : ℕ). take k xs) (sub-zero n)) ∙ length-take-le n xs (omega arith)
 
 module _ {graph : GraphReading} (given : AcceptedReading graph) where
@@ -35,11 +35,11 @@ module _ {graph : GraphReading} (given : AcceptedReading graph) where
   pub few-tasks : graph.tasks ≤ 64
   few-tasks = working-few well given.working
 
-  pub as-many-edges : length (front (graph.tasks + graph.edges) graph.source) ≡ graph.tasks + graph.edges
-  as-many-edges = front_length (graph.tasks + graph.edges) graph.source refl graph-within.source
+  pub as-many-edges : length (front (graph.tasks + graph.edges) graph.ordering) ≡ graph.tasks + graph.edges
+  as-many-edges = front_length (graph.tasks + graph.edges) graph.ordering refl graph-within.ordering
 
   pub few-edges : graph.tasks + graph.edges ≤ 320
-  few-edges = omega (arith, graph-within.source, graph-fronts.source_room)
+  few-edges = omega (arith, graph-within.ordering, graph-fronts.ordering_room)
 
   pub original-fit : Fit graph.tasks (front_edges graph)
   original-fit = working-fit well given.working

@@ -3,7 +3,7 @@
 
 ghost use Rattle.std.specs.Prelude.{◌≡◌, not, ◌&&◌, ◌≤◌, ◌<◌, eqb, length};
 ghost use Rattle.model.specs.Compute.{latency};
-ghost use Rattle.records.specs.Columns.{edges_of, at};
+ghost use Rattle.records.specs.Columns.{edges_in, at};
 ghost use Rattle.files.specs.Refusals.{refusal_of, refusal_in, Gives};
 ghost use Rattle.reach.specs.Reach.{bit};
 ghost use Rattle.starts.specs.Starts.{FileTimes};
@@ -12,6 +12,7 @@ ghost use Rattle.acceptance.specs.Acceptance.{schedule_checks, Accepts};
 ghost use Rattle.acceptance.specs.Outcomes.{outcome, room_refusal};
 
 use files::{Fault, Refusal};
+use layout::EdgeRecord;
 use readings::{GraphReading, read_graph};
 use turn::first_turn;
 
@@ -81,23 +82,20 @@ fn is_reached(reached: u64, input: usize, output: usize) -> bool
 
 // Checks 9 to 12, and the latency where they pass: the first turn tells all that they ask for.
 fn check_schedule<'a>(
-    source: &'a [u8],
-    sink: &'a [u8],
-    delay: &'a [u8],
+    edges: &'a [EdgeRecord],
     time: &'a [u16],
     input: usize,
     output: usize,
     bound: u32,
 ) -> Result<u32, Fault>
-    requires sink_len { (length sink.now ≡ length source.now) × (length delay.now ≡ length source.now) }
     requires time_len_bound { (length time.now ≤ 64) × (input < length time.now) × (output < length time.now) }
-    requires fit { Fit (length time.now) (edges_of source.now sink.now delay.now) }
+    requires fit { Fit (length time.now) (edges_in edges.now) }
     requires file_times { FileTimes time.now }
-    ensures { Gives result (schedule_checks (length time.now) (edges_of source.now sink.now delay.now) (at time.now) input output bound) (latency (length time.now) (edges_of source.now sink.now delay.now) (at time.now) output) }
+    ensures { Gives result (schedule_checks (length time.now) (edges_in edges.now) (at time.now) input output bound) (latency (length time.now) (edges_in edges.now) (at time.now) output) }
 {
     let tasks = time.len();
     let mut start: [u32; 64] = [0; 64];
-    let turn = first_turn(source, sink, delay, time, input, &mut start[0..tasks]);
+    let turn = first_turn(edges, time, input, &mut start[0..tasks]);
     let Some(reached) = turn.reached else {
         return Err(Fault::ZeroCycle);
     };
@@ -122,9 +120,7 @@ pub fn accept(graph: &[u8]) -> Result<Acceptance, Fault>
     let tasks = reading.tasks as usize;
     let end = tasks + reading.edges as usize;
     let latency = check_schedule(
-        &reading.source[0..end],
-        &reading.sink[0..end],
-        &reading.delay[0..end],
+        &reading.ordering[0..end],
         &reading.time[0..tasks],
         reading.input as usize,
         reading.output as usize,

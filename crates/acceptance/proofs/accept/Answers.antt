@@ -19,16 +19,10 @@ returns-in_err-reading c =
     gives-fault _ _ back.0 back.1 (read-refused c.args.graph.now _ c.in_err-reading.ensures.refusal)
 
 pub slice_bounds-check_schedule-end : goal.slice_bounds-check_schedule-end
-slice_bounds-check_schedule-end c = (lists-within c.args.graph.now c.in_ok-reading.ensures).source
+slice_bounds-check_schedule-end c = (lists-within c.args.graph.now c.in_ok-reading.ensures).ordering
 
 pub slice_bounds-check_schedule-end-2 : goal.slice_bounds-check_schedule-end-2
-slice_bounds-check_schedule-end-2 c = (lists-within c.args.graph.now c.in_ok-reading.ensures).sink
-
-pub slice_bounds-check_schedule-end-3 : goal.slice_bounds-check_schedule-end-3
-slice_bounds-check_schedule-end-3 c = (lists-within c.args.graph.now c.in_ok-reading.ensures).delay
-
-pub slice_bounds-check_schedule-end-4 : goal.slice_bounds-check_schedule-end-4
-slice_bounds-check_schedule-end-4 c = (lists-within c.args.graph.now c.in_ok-reading.ensures).time
+slice_bounds-check_schedule-end-2 c = (lists-within c.args.graph.now c.in_ok-reading.ensures).time
 
 pub check_schedule-requires : goal.check_schedule-requires
 check_schedule-requires c =
@@ -41,7 +35,6 @@ check_schedule-requires c =
     let n = length (front r.tasks r.time) in
     let as_many : n ≡ count g = f.as-many-times in
     record {
-      sink_len = (f.as-many-sinks, f.as-many-delays);
       time_len_bound = (omega (arith, as_many, well.at_most_64), omega (arith, as_many, f.input-is, well.input_below), omega (arith, as_many, f.output_is, well.output_below));
       fit = subst (λ (es : List Edge). Fit n es) (sym f.held) (subst (λ (k : ℕ). Fit k (edges g)) (sym as_many) (graph-fit g well));
       file_times = file-times g (front r.tasks r.time) well as_many f.times_are;

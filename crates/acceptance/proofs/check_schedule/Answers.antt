@@ -11,7 +11,7 @@ use mir.Facts.{Fits-widen}
 use borrow.Author.Tests.{not-true, not-false}
 use Rattle.model.specs.Tasks.{Edge, Ends}
 use Rattle.model.specs.Compute.{zero_cycle}
-use Rattle.records.specs.Columns.{edges_of, zeros, at}
+use Rattle.records.specs.Columns.{edges_in, zeros, at}
 use Rattle.turn.specs.Turn.{Turned}
 use Rattle.starts.proofs.Limits.{end-as-u32}
 use Rattle.starts.proofs.First.{front-start, turn-latency}
@@ -22,7 +22,7 @@ use Rattle.acceptance.proofs.check_schedule.Goals as goal
 use Rattle.acceptance.proofs.check_schedule.Goals.{After-first_turn-turn}
 
 abbrev edges : After-first_turn-turn → List Edge
-edges t = edges_of t.args.source.now t.args.sink.now t.args.delay.now
+edges t = edges_in t.args.edges.now
 
 -- the part that the turn is put into: a start of 0 for each task
 abbrev blank : After-first_turn-turn → List ℕ
@@ -51,10 +51,9 @@ slice_bounds-start-end c = front-room 64 0 refl c.requires.time_len_bound.0
 pub first_turn-turn-requires : goal.first_turn-turn-requires
 unfolding zeros at
 first_turn-turn-requires c =
-    let es = edges_of c.args.source.now c.args.sink.now c.args.delay.now in
+    let es = edges_in c.args.edges.now in
     let same = sym (front_length 64 0 refl c.requires.time_len_bound.0) in
     record {
-      sink_len = c.requires.sink_len;
       time_len = (same, subst (λ (m : ℕ). m ≤ 64) same c.requires.time_len_bound.0, subst (λ (m : ℕ). c.args.input < m) same c.requires.time_len_bound.1);
       ends = subst (λ (m : ℕ). Ends m es) same c.requires.fit.ends;
       by_index = λ v l. front_at 64 0 refl c.requires.time_len_bound.0 v (subst (λ (m : ℕ). v < m) (sym same) l);
