@@ -6,7 +6,7 @@ use native.Mathlib.Omega.{arith}
 use lib.ListN.{length, take, replicate}
 use Rattle.model.specs.Tasks.{Edge, Ends}
 use Rattle.model.specs.Compute.{zero_cycle}
-use Rattle.records.specs.Columns.{edges_of, at}
+use Rattle.records.specs.Columns.{edges_in, at}
 use Rattle.turn.specs.Turn.{Turned}
 use Rattle.starts.proofs.Limits.{end-as-u32}
 use Rattle.starts.proofs.First.{turn-made, turn-sized, front-start, turn-latency}
@@ -15,7 +15,7 @@ use Rattle.starts.proofs.latency.Goals as goal
 use Rattle.starts.proofs.latency.Goals.{Start, After-first_turn}
 
 abbrev edges : Start → List Edge
-edges s = edges_of s.args.source.now s.args.sink.now s.args.delay.now
+edges s = edges_in s.args.edges.now
 
 -- the part that the turn is put into: a start of 0 for each task
 abbrev blank : Start → List ℕ
@@ -43,7 +43,6 @@ first_turn-requires c =
     let s = (goal.at.first_turn-requires c).Start in
     let same = sym (blank-long s) in
     record {
-      sink_len = c.requires.sink_len;
       time_len = (same, subst (λ (m : ℕ). m ≤ 64) same c.requires.time_len_bound.0, subst (λ (m : ℕ). c.args.output < m) same c.requires.time_len_bound.1);
       ends = subst (λ (m : ℕ). Ends m (edges s)) same c.requires.ends;
       by_index = λ v l. front_at 64 0 refl c.requires.time_len_bound.0 v (subst (λ (m : ℕ). v < m) (sym same) l);

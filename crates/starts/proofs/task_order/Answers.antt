@@ -5,7 +5,7 @@ use Prim.Native.Nat.{ℕ, ◌-◌, ◌≤◌, ◌<◌}
 use lib.ListN.{length, take, replicate}
 use Rattle.model.specs.Tasks.{Edge}
 use Rattle.model.proofs.Earliest.{depth}
-use Rattle.records.specs.Columns.{edges_of}
+use Rattle.records.specs.Columns.{edges_in}
 use Rattle.sets.specs.Sets.{Crossed}
 use Rattle.sets.proofs.Graphs.{zero-sets, holds}
 use Rattle.sets.proofs.Words.{ends-small, crossed}
@@ -17,7 +17,7 @@ use Rattle.starts.proofs.task_order.Goals as goal
 use Rattle.starts.proofs.task_order.Goals.{Start, After-take_edges}
 
 abbrev edges : Start → List Edge
-edges s = edges_of s.args.source.now s.args.sink.now s.args.delay.now
+edges s = edges_in s.args.edges.now
 
 -- the part that the walk is given: a start of 0 for each task
 abbrev blank : Start → List ℕ
@@ -35,8 +35,7 @@ cross t = crossed t.take_edges.ensures.sinks t.take_edges.ensures.sources (begin
 pub take_edges-requires : goal.take_edges-requires
 take_edges-requires c =
     record {
-      sink_len = c.requires.sink_len;
-      by_index = ends-small c.args.source.now c.args.sink.now c.args.delay.now c.requires.in_bounds.1 c.requires.ends;
+      by_index = ends-small c.args.edges.now c.requires.in_bounds.1 c.requires.ends;
       sinks_value = (refl, refl);
     }
 

@@ -7,7 +7,7 @@ use native.Mathlib.Omega.{arith}
 use lib.ListN.{length, get_or}
 use borrow.Rule.Slice.PartMut.{mid_of}
 use Rattle.model.specs.Tasks.{Edge}
-use Rattle.records.specs.Columns.{edges_of, at}
+use Rattle.records.specs.Columns.{edges_in, at}
 use Rattle.turn.specs.Turn.{Leads}
 use Rattle.waits.specs.Later.{LaterEdges, Awaited}
 use Rattle.starts.specs.Starts.{turn_row}
@@ -19,7 +19,7 @@ use Rattle.starts.proofs.turns_into.Goals as goal
 use Rattle.starts.proofs.turns_into.Goals.{Start, In-loop-done, After-gather_ends, After-make_turn}
 
 abbrev edges : Start → List Edge
-edges s = edges_of s.args.source.now s.args.sink.now s.args.delay.now
+edges s = edges_in s.args.edges.now
 
 ready : (s : Start) → TurnGraph (length s.args.time.now) (edges s) s.args.time.now
 ready s =
@@ -136,7 +136,6 @@ row_is t =
 pub task_order-order-requires : goal.task_order-order-requires
 task_order-order-requires c =
     record {
-      sink_len = c.requires.sink_len;
       in_bounds = (c.requires.time_len_bound.3, c.requires.time_len_bound.0);
       ends = c.requires.ends;
       delay_value = c.requires.delay_value;
@@ -145,7 +144,7 @@ task_order-order-requires c =
 pub later_edges-late-requires : goal.later_edges-late-requires
 later_edges-late-requires c =
     record {
-      sink_len = (c.requires.sink_len.0, c.requires.sink_len.1, c.requires.source_len_bound);
+      edges_len_bound = c.requires.edges_len_bound;
       time_len_bound = (c.requires.time_len_bound.0, c.requires.time_len_bound.1, c.requires.ends);
       back_len = (refl, refl, refl);
     }

@@ -2,12 +2,12 @@
 -- what is gathered from the turns before it.
 use mathlib.Core.Path.{◌≡◌}
 use lib.ListN.{length}
-use Rattle.records.specs.Columns.{edges_of, at}
+use Rattle.records.specs.Columns.{edges_in, at}
 use Rattle.starts.proofs.Filling.{TurnsFilled}
 use Rattle.starts.proofs.turns_into.Given as goal
 
 abbrev pub invariant-loop-done : goal.invariant-loop-done
 invariant-loop-done l = record {
-  filled : TurnsFilled (length l.time) (edges_of l.source l.sink l.delay) (at l.time) l.initial.starts l.done l.starts;
+  filled : TurnsFilled (length l.time) (edges_in l.edges) (at l.time) l.initial.starts l.done l.starts;
   awaited-long : length l.awaited ≡ 64;
 }
