@@ -6,7 +6,7 @@ use Rattle.model.specs.Tasks.{Edge, Ends}
 use Rattle.model.specs.Graph.{Graph, count, edges}
 use Rattle.model.specs.Compute.{on_cycle}
 use Rattle.model.specs.Proposals.{result}
-use Rattle.records.specs.Columns.{edges_of}
+use Rattle.records.specs.Columns.{edges_in}
 use Rattle.results.specs.declared.ResultEdges.{ResultEdges}
 
 -- the edges on a cycle: of a graph, its processor edges and its feedback edges
@@ -19,17 +19,15 @@ result_of n es proposed = cyclic n es ++ proposed
 
 -- ── Only for contracts inside ──
 
--- the edges that a result's lists hold
+-- the edges that a result's list holds
 unfoldable pub result_in : ResultEdges → List Edge
-result_in r = edges_of (take r.count r.source) (take r.count r.sink) (take r.count r.delay)
+result_in r = edges_in (take r.count r.edges)
 
 -- they are these
 pub record HeldResult (r : ResultEdges) (es : List Edge) : Type 0 where
   pub as_many : r.count ≡ length es
   pub few : r.count ≤ 576
-  pub source_room : length r.source ≡ 576
-  pub sink_room : length r.sink ≡ 576
-  pub delay_room : length r.delay ≡ 576
+  pub room : length r.edges ≡ 576
   pub held : result_in r ≡ es
 
 -- The edges of a graph's result are these.

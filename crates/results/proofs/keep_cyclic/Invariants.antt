@@ -1,14 +1,14 @@
--- `results::keep_cyclic` meets its contract: after j steps the lists hold those of the first j edges that lie on a cycle, at most j. The edge of a step
+-- `results::keep_cyclic` meets its contract: after j steps the list holds those of the first j edges that lie on a cycle, at most j. The edge of a step
 -- is stored behind them, and counts if it does.
+use mathlib.Core.Path.{◌≡◌}
 use Prim.Native.Nat.{◌≤◌}
-use lib.ListN.{length}
-use Rattle.model.specs.Lists.{keep, tabulate}
+use lib.ListN.{length, take}
+use Rattle.model.specs.Lists.{keep}
 use Rattle.model.specs.Compute.{on_cycle}
-use Rattle.records.specs.Columns.{held_edge, edges_of}
-use Rattle.results.specs.Fronts.{HeldFront}
+use Rattle.records.specs.Columns.{edges_in}
 use Rattle.results.proofs.keep_cyclic.Given as goal
 
-abbrev pub invariant-loop-j : goal.invariant-loop-j
-invariant-loop-j l =
-    (l.kept ≤ l.j) ×
-    HeldFront 576 l.kept l.to_source l.to_sink l.to_delay (keep (on_cycle (length l.processor) (edges_of l.source l.sink l.delay)) (tabulate l.j (held_edge l.source l.sink l.delay)))
+abbrev pub invariant-loop-e : goal.invariant-loop-e
+invariant-loop-e l =
+    (l.kept ≤ l.e-index) × (length l.list ≡ 576) ×
+    (edges_in (take l.kept l.list) ≡ keep (on_cycle (length l.processor) (edges_in l.edges)) (edges_in (take l.e-index l.edges)))
