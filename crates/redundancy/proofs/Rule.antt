@@ -20,7 +20,7 @@ use Rattle.model.proofs.Walks.{path-ends}
 use Rattle.model.proofs.Basics.{order}
 use Rattle.model.proofs.Tests.{decides-iff, decides-yes, decides-no, decides_and, ltb-decides, order-holds}
 use Rattle.records.specs.Columns.{edge_of, edges_in, no_record}
-use Rattle.records.proofs.EdgesIn.{record-in, record-out, edge-in-at}
+use Rattle.records.proofs.EdgesIn.{record-out, edge-in-at}
 use Rattle.records.proofs.Rows.{product_small}
 use Rattle.delays.specs.Rows.{LeastEntry}
 use Rattle.delays.proofs.Kept.{cut-least}
@@ -28,7 +28,7 @@ use Rattle.delays.proofs.Steps.{fit_at}
 use Rattle.delays.proofs.Table.{table-length, table_at}
 use Rattle.redundancy.specs.Redundancy.{redundant_in, turned, Tabled, LeastSum}
 use Rattle.redundancy.proofs.Between.{Between, ends-without, held-between}
-use Rattle.redundancy.proofs.Turned.{turned-in, turned-out}
+use Rattle.redundancy.proofs.Turned.{turned-in, turned-step}
 
 -- the test decides redundancy
 redundant-decides : {n : ℕ} {es : List Edge} → Ends n es → (i : ℕ) →
@@ -85,17 +85,14 @@ module _ {n : ℕ} {rs : List EdgeRecord} {table last : List ℕ} (tabled : Tabl
           let u = found.0 in
           let is = found.2 in
           let step = tabled.steps.held t u (omega (arith, at.1, tabled.few)) (omega (arith, found.1, tabled.few)) (omega (arith, is, few, at.2)) in
-          let place = turned-out rs step.0 step.1 in
-          let to : (get_or rs place.0 no_record).sink ≡ t = ap {B = ℕ} (λ (x : Edge). x.source) (sym place.2) ∙ step.2 in
-          let by : u ≡ (get_or rs place.0 no_record).source = sym step.3 ∙ ap {B = ℕ} (λ (x : Edge). x.sink) place.2 in
-          let late : (get_or rs place.0 no_record).delay ≡ get_or last (t * 64 + u) 0 = ap {B = ℕ} (λ (x : Edge). x.delay) (sym place.2) ∙ step.4 in
+          let last-edge = turned-step rs step.0 step.1 step.2 step.3 step.4 in
           inr (
-            edge_of (get_or rs place.0 no_record),
-            record-in rs place.0 place.1,
-            to,
+            last-edge.0,
+            last-edge.1,
+            last-edge.2,
             min (get_or table (s * n + u) 0) 16383,
-            path-ends refl by ((lowest s u at.0 found.1).held.path (omega (arith, is, few, at.2))),
-            omega (arith, is, few, late),
+            path-ends {b' = last-edge.0.source} refl last-edge.3 ((lowest s u at.0 found.1).held.path (omega (arith, is, few, at.2))),
+            omega (arith, is, few, last-edge.4),
           )
 
       -- what comes in between shows in one of them

@@ -28,6 +28,21 @@ module _ (rs : List EdgeRecord) where
       let found = record-out (map turned rs) e m in
       (found.0, omega (arith, found.1, length-map rs turned), found.2 ∙ ap edge_of (turned-at found.0))
 
+  -- a turned edge's ends and delay are those of an edge
+  pub turned-step :
+      {t u d : ℕ} (e : Edge) → e ∈ edges_in (map turned rs) → e.source ≡ t → e.sink ≡ u → e.delay ≡ d
+      → (f : Edge) × f ∈ edges_in rs × (f.sink ≡ t) × (u ≡ f.source) × (f.delay ≡ d)
+  unfolding edge_of turned
+  turned-step e m from to late =
+      let at = turned-out e m in
+      let is = at.2 in (
+        edge_of (get_or rs at.0 no_record),
+        record-in rs at.0 at.1,
+        ap {B = ℕ} (λ (x : Edge). x.source) (sym is) ∙ from,
+        sym to ∙ ap {B = ℕ} (λ (x : Edge). x.sink) is,
+        ap {B = ℕ} (λ (x : Edge). x.delay) (sym is) ∙ late,
+      )
+
   -- edges between n tasks turned round are edges between them
   pub fit-turned : {n : ℕ} → Fit n (edges_in rs) → Fit n (edges_in (map turned rs))
   unfolding edge_of turned

@@ -12,5 +12,4 @@ use Rattle.first_stage.proofs.keep_needed.Given as goal
 abbrev pub invariant-loop-j : goal.invariant-loop-j
 invariant-loop-j l =
     (l.stage.count ≤ l.j) ×
-    ((es : List Edge) → Fit l.tasks es → l.table ≡ delay_table l.tasks es →
-    HeldStage l.stage (needed_below l.tasks es (mark_at l.marks) l.source l.sink l.delay l.j))
+    ((es : List Edge) → Fit l.tasks es → l.table ≡ delay_table l.tasks es → HeldStage l.stage (needed_below l.tasks es (mark_at l.marks) l.edges l.j))
