@@ -56,11 +56,7 @@ fn graph_records<'a>(
     let tasks = header.tasks as usize;
     let end = tasks + header.edges as usize;
     graph_lists(bytes, header, processor, time, ordering);
-    check_records(
-        &processor[0..tasks],
-        &time[0..tasks],
-        &ordering[tasks..end],
-    )
+    check_records(&processor[0..tasks], &time[0..tasks], &ordering[tasks..end])
 }
 
 // The graph that a file holds, in its working form, or the fault of 1 to 8 that it has, for every list of bytes.
@@ -77,13 +73,7 @@ pub fn read_graph(bytes: &[u8]) -> Result<GraphReading, Fault>
         delay: 0,
     };
     let mut ordering: [EdgeRecord; 320] = [none; 320];
-    graph_records(
-        bytes,
-        header,
-        &mut processor,
-        &mut time,
-        &mut ordering,
-    )?;
+    graph_records(bytes, header, &mut processor, &mut time, &mut ordering)?;
     Ok(GraphReading {
         tasks: header.tasks,
         edges: header.edges,

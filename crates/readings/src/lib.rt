@@ -4,9 +4,8 @@
 mod graphs;
 mod proposals;
 
-use layout::EdgeRecord;
-
 pub use graphs::read_graph;
+use layout::EdgeRecord;
 pub use proposals::read_proposal;
 
 // A graph file as read, by value. The edges that order the graph stand in one list: processor edges first, entry v the one out of task v, then from

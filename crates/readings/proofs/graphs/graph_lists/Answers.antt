@@ -1,7 +1,6 @@
 -- `readings::graphs::graph_lists` meets its contract: zeros with the tasks in front, and blank records with the processor edges and then the file's
 -- edges in front, are the lists of the working form.
 use mathlib.Core.Path.{refl}
-use Prim.Native.Nat.{◌+◌, ◌≤◌}
 use native.Mathlib.Omega.{arith}
 use Rattle.model.specs.Tasks.{no_task, processor_of}
 use Rattle.model.specs.Graph.{time_of}

@@ -1,11 +1,7 @@
 -- `readings::proposals::proposal_records` meets its contract: the list holds the file's edges, so the checks are theirs.
-use mathlib.Core.Path.{◌≡◌, sym, ap, ◌∙◌, subst}
-use Prim.Native.Nat.{ℕ, ◌≤◌}
+use mathlib.Core.Path.{sym, ap, ◌∙◌}
 use native.Mathlib.Omega.{arith}
-use lib.ListN.{length}
 use Rattle.layout.specs.declared.ProposalHeader.{ProposalHeader}
-use Rattle.model.specs.Tasks.{Edge}
-use Rattle.files.specs.Refusals.{refusal_in}
 use Rattle.files.specs.Files.{proposal_of, proposed_edges_refusal, edge_in}
 use Rattle.readings.specs.Working.{working_proposal}
 use Rattle.records.specs.Columns.{no_record}
