@@ -11,21 +11,14 @@ use Rattle.present.proofs.Reading.{reading-clocked, ordered-first}
 use Rattle.present.proofs.first_times.Goals as goal
 
 pub slice_bounds-take_edges-end : goal.slice_bounds-take_edges-end
-slice_bounds-take_edges-end c = (graph-within c.requires.accepted_reading).source
-
-pub slice_bounds-take_edges-end-2 : goal.slice_bounds-take_edges-end-2
-slice_bounds-take_edges-end-2 c = (graph-within c.requires.accepted_reading).sink
-
-pub slice_bounds-take_edges-end-3 : goal.slice_bounds-take_edges-end-3
-slice_bounds-take_edges-end-3 c = (graph-within c.requires.accepted_reading).delay
+slice_bounds-take_edges-end c = (graph-within c.requires.accepted_reading).ordering
 
 pub take_edges-requires : goal.take_edges-requires
 take_edges-requires c =
     let graph = c.requires.accepted_reading.accepted in
     let lists = graph-fronts c.requires.accepted_reading in
     record {
-      sink_len = (lists.as-many-sinks, lists.as-many-delays);
-      by_index = ends-small _ _ _ graph.formed.at_most_64 (first_ends graph lists.held);
+      by_index = ends-small _ graph.formed.at_most_64 (first_ends graph lists.held);
       sinks_value = (refl, refl);
     }
 
