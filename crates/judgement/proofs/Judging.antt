@@ -3,8 +3,8 @@
 use mathlib.Core.Path.{◌≡◌, refl, sym, ap, ◌∙◌, subst}
 use mathlib.Core.Logic.{◌⊎◌, inl, inr, ◌≢◌}
 use mathlib.Core.Bool.{Bool, false, not}
-use mathlib.Core.List.{List, [], ◌∷◌, ◌++◌}
-use Prim.Native.Nat.{ℕ, zero, suc, ◌+◌, ◌-◌, ◌≤◌, ◌<◌}
+use mathlib.Core.List.{List}
+use Prim.Native.Nat.{ℕ, suc, ◌-◌, ◌≤◌, ◌<◌}
 use native.Mathlib.Nat.{sub-zero}
 use native.Mathlib.Omega.{arith}
 use lib.Dec.{ltb}
@@ -14,31 +14,30 @@ use borrow.Author.Tests.{lt-ltb, le-ltb}
 use Rattle.std.proofs.Common.{Result, Err}
 use Rattle.std.specs.Result.{IsErrAnd}
 use Rattle.std.proofs.lemmas.Result.{err_from_is_err_and}
-use Rattle.model.specs.Lists.{counted, tabulate}
-use Rattle.model.specs.Tasks.{Edge, ◌∈◌, Ends, no_edge, processor_of}
+use Rattle.model.specs.Lists.{counted}
+use Rattle.model.specs.Tasks.{Edge, ◌∈◌, Ends, processor_of}
 use Rattle.model.specs.Processors.{processor_edges}
 use Rattle.model.specs.Graph.{Graph, WellFormed, count, edges, time_of}
 use Rattle.model.specs.Paths.{NoneOnCycle, sync_at}
-use Rattle.model.specs.Compute.{least_delay, present, on_cycle, order_holds, latency, latency_of, zero_cycle}
+use Rattle.model.specs.Compute.{order_holds, latency, latency_of, zero_cycle}
 use Rattle.model.specs.Proposals.{result}
 use Rattle.model.proofs.Processors.{processor-around}
-use Rattle.model.proofs.Basics.{order, place-member}
+use Rattle.model.proofs.Basics.{order}
 use Rattle.model.proofs.Walks.{path-re-base}
 use Rattle.model.proofs.Graphs.{processor-edge-in}
 use Rattle.model.proofs.Results.{result-processor}
-use Rattle.records.specs.Columns.{SourcesOf, SinksOf, DelaysOf, edges_of, held_edge, at}
-use Rattle.records.proofs.Edges.{edge-at, edge_in_lem, edges-of-columns}
+use Rattle.layout.specs.declared.EdgeRecord.{EdgeRecord}
+use Rattle.records.specs.Columns.{record_of, edges_in, at}
 use Rattle.records.proofs.Fill.{length-tabulate, get_d_tabulate}
-use Rattle.records.proofs.Ordered.{sync-place}
+use Rattle.records.proofs.Ordered.{edges-count, sync-place}
 use Rattle.files.specs.declared.Fault.{Fault}
 use Rattle.files.specs.declared.Fault.TheVariants.{Late}
 use Rattle.files.specs.declared.Refusal.{Refusal}
 use Rattle.files.specs.Files.{edge_in, first_of}
-use Rattle.files.specs.Refusals.{refuse, not_refused, refusal_of, first}
+use Rattle.files.specs.Refusals.{refuse, not_refused, refusal_of}
 use Rattle.files.proofs.First.{number_same, number-found, handed_back, fault-number}
 use Rattle.readings.specs.declared.GraphReading.{GraphReading}
 use Rattle.readings.specs.declared.ProposalReading.{ProposalReading}
-use Rattle.readings.specs.Theorems.{HeldEdges}
 use Rattle.readings.specs.Working.{working_graph, working_proposal, graph_in, proposed_in}
 use Rattle.readings.proofs.Held.{working-edges-hold}
 use Rattle.reach.specs.Reach.{Circled, ReachesOn}
@@ -48,7 +47,7 @@ use Rattle.results.specs.Results.{result_in, result_of, HeldResult}
 use Rattle.results.proofs.Results.{result-edges-are}
 use Rattle.acceptance.specs.Acceptance.{AcceptedReading}
 use Rattle.acceptance.proofs.Fronts.{front, front_edges, lent}
-use Rattle.acceptance.proofs.Readings.{front_length, graph-fronts, few-tasks, as-many-edges, original-fit}
+use Rattle.acceptance.proofs.Readings.{front_length, graph-fronts, few-tasks, original-fit}
 use Rattle.judgement.specs.Judgement.{cycle_refusal, lost_refusal, judged_refusal, tells_latency, Judgement, judgement, latency_told, Judges}
 use Rattle.judgement.specs.Searches.{first_cyclic, lost_from, Judgeable, Made, lost_in, late_in}
 use Rattle.judgement.proofs.Chain.{cycles_searched, orders_searched, stops-13, stops-14, stops-15, passed}
@@ -56,54 +55,30 @@ use Rattle.judgement.proofs.Tested.{result-fit, cycles-found, off-cycles-pass, p
 
 -- ── The proposed edges, and the result's, in lists ──
 
--- the edges that the fronts of a proposal's lists hold
+-- the edges that the front of a proposal's list holds
 abbrev pub front_proposed : ProposalReading → List Edge
-front_proposed p = edges_of (front p.edges p.source) (front p.edges p.sink) (front p.edges p.delay)
+front_proposed p = edges_in (front p.edges p.proposed)
 
--- the edges that the fronts of a result's lists hold
+-- the edges that the front of a result's list holds
 abbrev pub front_result : ResultEdges → List Edge
-front_result r = edges_of (front r.count r.source) (front r.count r.sink) (front r.count r.delay)
+front_result r = edges_in (front r.count r.edges)
 
 pub record ProposedFronts (proposed : List Edge) (p : ProposalReading) : Type 0 where
   pub edges_are : p.edges ≡ length proposed
-  pub source_room : length p.source ≡ 256
-  pub sink_room : length p.sink ≡ 256
-  pub delay_room : length p.delay ≡ 256
+  pub room : length p.proposed ≡ 256
   pub held : front_proposed p ≡ proposed
-  pub as_many : length (front p.edges p.source) ≡ length proposed
-  pub as-many-sinks : length (front p.edges p.sink) ≡ length (front p.edges p.source)
-  pub as-many-delays : length (front p.edges p.delay) ≡ length (front p.edges p.source)
 
--- the fronts of proposed edges in their working form hold them
+-- the front of proposed edges in their working form holds them
 working-proposed : (proposed : List Edge) → length proposed ≤ 256 → ProposedFronts proposed (working_proposal proposed)
 unfolding working_proposal
 working-proposed proposed few =
-    let holds : HeldEdges proposed = working-edges-hold proposed few in
-    let proposal = working_proposal proposed in
-    let sources = lent (SourcesOf proposed) (length proposed) proposal.source holds.sources in
-    let sinks = lent (SinksOf proposed) (length proposed) proposal.sink holds.sinks in
-    let delays = lent (DelaysOf proposed) (length proposed) proposal.delay holds.delays in
     record {
       edges_are = refl;
-      source_room = length-tabulate 256 (λ i. (edge_in proposed i).source);
-      sink_room = length-tabulate 256 (λ i. (edge_in proposed i).sink);
-      delay_room = length-tabulate 256 (λ i. (edge_in proposed i).delay);
+      room = length-tabulate 256 (λ i. record_of (edge_in proposed i));
       held =
-          edges-of-columns (front (length proposed) proposal.source) (front (length proposed) proposal.sink)
-          (front (length proposed) proposal.delay) proposed sources sinks delays;
-      as_many = sources.as_many;
-      as-many-sinks = sinks.as_many ∙ sym sources.as_many;
-      as-many-delays = delays.as_many ∙ sym sources.as_many;
+          lent (λ (rs : List EdgeRecord). edges_in rs ≡ proposed) (length proposed) (working_proposal proposed).proposed
+          (working-edges-hold proposed few).proposed;
     }
-
--- checks that say the same at every place give the same first refusal
-first-same : (n : ℕ) (f h : ℕ → Refusal) → ((i : ℕ) → i < n → f i ≡ h i) → first_of n f ≡ first_of n h
-unfolding first_of tabulate
-first-same n f h same = ap first (go n same)
-  where
-    go : (n : ℕ) → ((i : ℕ) → i < n → f i ≡ h i) → tabulate n f ≡ tabulate n h
-    go zero same = refl
-    go (suc n) same = λ i. go n (λ j l. same j (omega arith)) i ++ (same n (omega arith) i ∷ [])
 
 -- ── Faults without latency ──
 
@@ -178,32 +153,12 @@ module _ {graph : GraphReading} (given : AcceptedReading graph) where
   pub fit-by-processors : Fit (length processor) (front_edges graph)
   fit-by-processors = subst (λ (n : ℕ). Fit n (front_edges graph)) (sym as-many-processors) (original-fit given)
 
-  sync-held :
-      (j : ℕ) → j < length g.syncs →
-      held_edge (front (graph.tasks + graph.edges) graph.source) (front (graph.tasks + graph.edges) graph.sink) (front (graph.tasks + graph.edges) graph.delay) (graph.tasks + j) ≡
-      sync_at g j
-  unfolding sync_at
-  sync-held j below =
-      sym (edge-at (front (graph.tasks + graph.edges) graph.source) (front (graph.tasks + graph.edges) graph.sink) (front (graph.tasks + graph.edges) graph.delay) (graph.tasks + j)
-      (omega (arith, as-many-edges given, (graph-fronts given).edges_are))) ∙
-      ((λ i. get_or ((graph-fronts given).held i) ((graph-fronts given).tasks-are i + j) no_edge) ∙ sync-place g j)
-
   -- ── The edges of a result in lists ──
 
   module _ {proposed : List Edge} {r : ResultEdges} (made : Made graph proposed r) where
     pub result-held : front_result r ≡ edges (result g proposed)
     unfolding result_in
-    result-held =
-        (λ i. edges_of (take (sub-zero r.count i) r.source) (take (sub-zero r.count i) r.sink) (take (sub-zero r.count i) r.delay)) ∙
-        made.held.held
-
-    pub result-sinks : length (front r.count r.sink) ≡ length (front r.count r.source)
-    result-sinks =
-        front_length r.count r.sink made.held.sink_room made.held.few ∙ sym (front_length r.count r.source made.held.source_room made.held.few)
-
-    pub result-delays : length (front r.count r.delay) ≡ length (front r.count r.source)
-    result-delays =
-        front_length r.count r.delay made.held.delay_room made.held.few ∙ sym (front_length r.count r.source made.held.source_room made.held.few)
+    result-held = lent (λ (rs : List EdgeRecord). edges_in rs ≡ edges (result g proposed)) r.count r.edges made.held.held
 
     pub held-fit : Fit graph.tasks (front_result r)
     held-fit =
@@ -218,39 +173,23 @@ module _ {graph : GraphReading} (given : AcceptedReading graph) where
     pub result-circled : Circled (length processor) (front_result r) processor
     result-circled = circled (front_result r) (λ e m. subst (λ (es : List Edge). e ∈ es) (sym result-held) (result-processor g proposed m))
 
-    pub result-joins :
-        (j : ℕ) → j < length (front r.count r.source) →
-        (at (front r.count r.source) j < length processor) × (at (front r.count r.sink) j < length processor)
-    unfolding held_edge at
-    result-joins j below =
-        let source = front r.count r.source in
-        let sink = front r.count r.sink in
-        let delay = front r.count r.delay in
-        let ends = held-fit.ends (held_edge source sink delay j) (edge_in_lem source sink delay j below) in
-        (omega (arith, ends.0, as-many-processors), omega (arith, ends.1, as-many-processors))
+    pub result-joins : Ends (length processor) (front_result r)
+    result-joins = subst (λ (n : ℕ). Ends n (front_result r)) (sym as-many-processors) held-fit.ends
 
-    pub result-within : (r.count ≤ length r.source) × (r.count ≤ length r.sink) × (r.count ≤ length r.delay)
-    result-within =
-        (omega (arith, made.held.few, made.held.source_room), omega (arith, made.held.few, made.held.sink_room), omega (arith, made.held.few, made.held.delay_room))
+    pub result-within : r.count ≤ length r.edges
+    result-within = omega (arith, made.held.few, made.held.room)
 
     pub result-ends : Ends (length (front graph.tasks graph.time)) (front_result r)
     result-ends = subst (λ (n : ℕ). Ends n (front_result r)) ((graph-fronts given).tasks-are ∙ sym (graph-fronts given).as-many-times) held-fit.ends
 
     -- ── 14, by these lists ──
 
-    pub lost-is :
-        lost_from graph.tasks (front_result r) (front (graph.tasks + graph.edges) graph.source) (front (graph.tasks + graph.edges) graph.sink)
-        (front (graph.tasks + graph.edges) graph.delay)
-        ≡ lost_in g (result_in r)
-    unfolding lost_from lost_in
+    pub lost-is : lost_from graph.tasks (front_result r) (front_edges graph) ≡ lost_in g (result_in r)
+    unfolding lost_from lost_in edge_in sync_at
     lost-is =
-        let source = front (graph.tasks + graph.edges) graph.source in
-        let sink = front (graph.tasks + graph.edges) graph.sink in
-        let delay = front (graph.tasks + graph.edges) graph.delay in
-        let size : length source - graph.tasks ≡ length g.syncs = omega (arith, as-many-edges given, (graph-fronts given).edges_are) in
-        ap (λ (n : ℕ). first_of n (λ j. refuse (not (order_holds graph.tasks (front_result r) (held_edge source sink delay (graph.tasks + j)))) 14 (suc j))) size ∙
-        first-same (length g.syncs) _ (λ j. refuse (not (order_holds (count g) (result_in r) (sync_at g j))) 14 (suc j))
-        (λ j below. λ i. refuse (not (order_holds ((graph-fronts given).tasks-are i) ((result-held ∙ sym made.held.held) i) (sync-held j below i))) 14 (suc j))
+        let size : length (edges g) - count g ≡ length g.syncs = omega (arith, edges-count g) in
+        (λ i. lost_from ((graph-fronts given).tasks-are i) ((result-held ∙ sym made.held.held) i) ((graph-fronts given).held i)) ∙
+        (λ i. first_of (size i) (λ j. refuse (not (order_holds (count g) (result_in r) (sync-place g j i))) 14 (suc j)))
 
     -- ── 15 ──
 
@@ -298,48 +237,24 @@ module _ {graph : GraphReading} {proposal : ProposalReading} (judgeable : Judgea
       result-edges-are (graph_in graph) given.accepted.formed.syncs_formed.ends proposed)
       made
 
-  -- the proposed edge at a place
-  proposed_at :
-      (j : ℕ) → j < length proposed →
-      edge_in proposed j ≡ held_edge (front proposal.edges proposal.source) (front proposal.edges proposal.sink) (front proposal.edges proposal.delay) j
-  unfolding edge_in
-  proposed_at j below =
-      ap (λ (es : List Edge). get_or es j no_edge) (sym proposed-fronts.held) ∙
-      edge-at (front proposal.edges proposal.source) (front proposal.edges proposal.sink) (front proposal.edges proposal.delay) j
-      (subst (λ (n : ℕ). j < n) (sym proposed-fronts.as_many) below)
+  pub proposed_ends : Ends (length (processor given)) (front_proposed proposal)
+  proposed_ends =
+      subst (λ (es : List Edge). Ends (length (processor given)) es) (sym proposed-fronts.held)
+      (subst (λ (n : ℕ). Ends n proposed) (sym (as-many-processors given ∙ (graph-fronts given).tasks-are)) judgeable.formed.ends)
 
-  pub proposed_ends :
-      (j : ℕ) → j < length (front proposal.edges proposal.source) →
-      (at (front proposal.edges proposal.source) j < length (processor given)) × (at (front proposal.edges proposal.sink) j < length (processor given))
-  unfolding held_edge at edge_in
-  proposed_ends j below =
-      let inside : j < length proposed = subst (λ (n : ℕ). j < n) proposed-fronts.as_many below in
-      let ends = judgeable.formed.ends (edge_in proposed j) (place-member proposed j no_edge inside) in
-      let same = proposed_at j inside in
-      (subst (λ (n : ℕ). at (front proposal.edges proposal.source) j < n) (sym (as-many-processors given ∙ (graph-fronts given).tasks-are)) (subst (λ (e : Edge). e.source < count (graph_in graph)) same ends.0), subst (λ (n : ℕ). at (front proposal.edges proposal.sink) j < n) (sym (as-many-processors given ∙ (graph-fronts given).tasks-are)) (subst (λ (e : Edge). e.sink < count (graph_in graph)) same ends.1))
+  pub proposed-within : proposal.edges ≤ length proposal.proposed
+  proposed-within = omega (arith, few-proposed, proposed-fronts.room)
+
+  pub few-lent : length (front proposal.edges proposal.proposed) ≤ 256
+  few-lent = omega (arith, front_length proposal.edges proposal.proposed refl proposed-within, few-proposed)
 
   -- ── 13 ──
 
-  found_at :
-      (j : ℕ) → j < length proposed →
-      on_cycle (count (graph_in graph)) (edges (result (graph_in graph) proposed)) (edge_in proposed j) ≡
-      present (least_delay graph.tasks (edges (result (graph_in graph) proposed)) (at (front proposal.edges proposal.sink) j) (at (front proposal.edges proposal.source) j))
-  unfolding on_cycle held_edge at
-  found_at j below =
-      ap (on_cycle (count (graph_in graph)) (edges (result (graph_in graph) proposed))) (proposed_at j below) ∙
-      ap (λ (n : ℕ). present (least_delay n (edges (result (graph_in graph) proposed)) (get_or (front proposal.edges proposal.sink) j 0) (get_or (front proposal.edges proposal.source) j 0))) (sym (graph-fronts given).tasks-are)
-
   pub cycle-is :
-      first_cyclic (length (processor given)) (edges (result (graph_in graph) proposed)) (front proposal.edges proposal.source) (front proposal.edges proposal.sink)
-      ≡ cycles_searched (graph_in graph) proposed
+      first_cyclic (length (processor given)) (edges (result (graph_in graph) proposed)) (front_proposed proposal) ≡ cycles_searched (graph_in graph) proposed
   unfolding first_cyclic cycle_refusal
   cycle-is =
-      let source = front proposal.edges proposal.source in
-      let sink = front proposal.edges proposal.sink in
-      let rs = edges (result (graph_in graph) proposed) in
-      (λ i. first_of (proposed-fronts.as_many i) (λ j. refuse (present (least_delay (as-many-processors given i) rs (at sink j) (at source j))) 13 (suc j))) ∙
-      first-same (length proposed) (λ j. refuse (present (least_delay graph.tasks rs (at sink j) (at source j))) 13 (suc j)) (cycle_refusal (graph_in graph) proposed)
-      (λ j below. ap (λ (b : Bool). refuse b 13 (suc j)) (sym (found_at j below)))
+      λ i. first_cyclic ((as-many-processors given ∙ (graph-fronts given).tasks-are) i) (edges (result (graph_in graph) proposed)) (proposed-fronts.held i)
 
   -- ── The chain ──
 

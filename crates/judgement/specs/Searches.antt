@@ -3,11 +3,10 @@ use Rattle.std.specs.Prelude.{◌≡◌, not, List, ℕ, suc, ◌+◌, ◌-◌, 
 use Rattle.model.specs.Tasks.{Edge}
 use Rattle.model.specs.Graph.{Graph, WellFormedEdges, count, edges, time_of}
 use Rattle.model.specs.Paths.{sync_at}
-use Rattle.model.specs.Compute.{present, least_delay, order_holds, latency}
+use Rattle.model.specs.Compute.{on_cycle, order_holds, latency}
 use Rattle.model.specs.Proposals.{result}
-use Rattle.records.specs.Columns.{at, held_edge}
 use Rattle.files.specs.declared.Refusal.{Refusal}
-use Rattle.files.specs.Files.{first_of}
+use Rattle.files.specs.Files.{edge_in, first_of}
 use Rattle.files.specs.Refusals.{refuse}
 use Rattle.readings.specs.declared.GraphReading.{GraphReading}
 use Rattle.readings.specs.declared.ProposalReading.{ProposalReading}
@@ -17,14 +16,13 @@ use Rattle.results.specs.Results.{HeldResult}
 use Rattle.acceptance.specs.Acceptance.{AcceptedReading}
 use Rattle.judgement.specs.Judgement.{Judgement}
 
--- the first of the edges of two lists that lies on a cycle of rs: a path leads back from its sink to its source
-unfoldable pub first_cyclic : ℕ → List Edge → List ℕ → List ℕ → Refusal
-first_cyclic n rs source sink = first_of (length source) (λ j. refuse (present (least_delay n rs (at sink j) (at source j))) 13 (suc j))
+-- the first of some edges that lies on a cycle of rs
+unfoldable pub first_cyclic : ℕ → List Edge → List Edge → Refusal
+first_cyclic n rs es = first_of (length es) (λ j. refuse (on_cycle n rs (edge_in es j)) 13 (suc j))
 
--- the first of the edges from entry n on whose order is lost in rs
-unfoldable pub lost_from : ℕ → List Edge → List ℕ → List ℕ → List ℕ → Refusal
-lost_from n rs source sink delay =
-    first_of (length source - n) (λ j. refuse (not (order_holds n rs (held_edge source sink delay (n + j)))) 14 (suc j))
+-- the first of some edges, looked at from entry n on, whose order is lost in rs
+unfoldable pub lost_from : ℕ → List Edge → List Edge → Refusal
+lost_from n rs es = first_of (length es - n) (λ j. refuse (not (order_holds n rs (edge_in es (n + j)))) 14 (suc j))
 
 -- an accepted graph and well-formed proposed edges, both in their working form
 pub record Judgeable (graph : GraphReading) (proposal : ProposalReading) : Type 0 where
@@ -32,7 +30,7 @@ pub record Judgeable (graph : GraphReading) (proposal : ProposalReading) : Type 
   pub formed : WellFormedEdges (count (graph_in graph)) (proposed_in proposal)
   pub working : proposal ≡ working_proposal (proposed_in proposal)
 
--- lists hold the edges of the result of well-formed proposed edges
+-- a list holds the edges of the result of well-formed proposed edges
 pub record Made (graph : GraphReading) (proposed : List Edge) (made : ResultEdges) : Type 0 where
   pub formed : WellFormedEdges (count (graph_in graph)) proposed
   pub held : HeldResult made (edges (result (graph_in graph) proposed))

@@ -2,11 +2,11 @@
 #![tactic(auto)]
 
 ghost use Rattle.std.specs.Prelude.{◌≡◌, false, List, ℕ, ◌≤◌, ◌<◌, length};
-ghost use Rattle.model.specs.Tasks.{Edge};
+ghost use Rattle.model.specs.Tasks.{Edge, Ends};
 ghost use Rattle.model.specs.Graph.{count, edges};
 ghost use Rattle.model.specs.Compute.{zero_cycle};
 ghost use Rattle.model.specs.Proposals as proposals;
-ghost use Rattle.records.specs.Columns.{edges_of, at};
+ghost use Rattle.records.specs.Columns.{edges_in, at};
 ghost use Rattle.files.specs.Files.{first_of};
 ghost use Rattle.files.specs.Refusals.{refusal_in};
 ghost use Rattle.readings.specs.Working.{graph_in, proposed_in};
@@ -19,25 +19,25 @@ ghost use Rattle.judgement.specs.Searches.{first_cyclic, lost_from, Judgeable, M
 
 use delays::{FAR, WIDTH, finish_row, take_steps};
 use files::Fault;
+use layout::EdgeRecord;
 use reach::{leads_to, paths_between_processors, processor_of};
 use readings::{GraphReading, ProposalReading};
 use results::{ResultEdges, result_edges};
 
 // 13: the first of some edges that lies on a cycle, by between which processors paths lead in the graph that has them.
 fn cyclic_edge<'a>(
-    source: &'a [u8],
-    sink: &'a [u8],
+    edges: &'a [EdgeRecord],
     processor: &'a [u8],
     words: &'a [u64],
 ) -> Result<(), Fault>
-    requires sink_len { (length sink.now ≡ length source.now) × (length source.now ≤ 256) × (length words.now ≡ 16) }
+    requires edges_len_bound { (length edges.now ≤ 256) × (length words.now ≡ 16) }
     requires by_index { (v : ℕ) → v < length processor.now → at processor.now v < 16 }
-    requires by_index_2 { (j : ℕ) → j < length source.now → (at source.now j < length processor.now) × (at sink.now j < length processor.now) }
-    ensures { (rs : List Edge) → ReachesOn (length processor.now) rs processor.now words.now → refusal_in result ≡ first_cyclic (length processor.now) rs source.now sink.now }
+    requires ends { Ends (length processor.now) (edges_in edges.now) }
+    ensures { (rs : List Edge) → ReachesOn (length processor.now) rs processor.now words.now → refusal_in result ≡ first_cyclic (length processor.now) rs (edges_in edges.now) }
 {
-    for j in 0..source.len() {
-        let from = processor_of(processor, source[j]);
-        let to = processor_of(processor, sink[j]);
+    for (j, e) in edges.iter().enumerate() {
+        let from = processor_of(processor, e.source);
+        let to = processor_of(processor, e.sink);
         if leads_to(words, to, from) {
             return Err(Fault::OnCycle(j as u32 + 1));
         }
@@ -46,30 +46,24 @@ fn cyclic_edge<'a>(
 }
 
 // 14: the first edge of a graph's file whose order is lost in the result. An edge of the result with the same ends and no more delay holds an order; where
-// there is none, the row of least delays out of the order's source decides. Processor edges stand first in the lists, one for each task.
+// there is none, the row of least delays out of the order's source decides. Processor edges stand first in the list, one for each task.
 fn lost_order<'a>(
-    source: &'a [u8],
-    sink: &'a [u8],
-    delay: &'a [u8],
-    result_source: &'a [u8],
-    result_sink: &'a [u8],
-    result_delay: &'a [u8],
+    edges: &'a [EdgeRecord],
+    made: &'a [EdgeRecord],
     tasks: usize,
 ) -> Result<(), Fault>
-    requires sink_len { (length sink.now ≡ length source.now) × (length delay.now ≡ length source.now) }
-    requires result_sink_len { (length result_sink.now ≡ length result_source.now) × (length result_delay.now ≡ length result_source.now) }
-    requires tasks_in_bounds { (tasks ≤ length source.now) × (length source.now ≤ 320) × (tasks ≤ 64) }
-    requires fit { Fit tasks (edges_of source.now sink.now delay.now) }
-    requires fit_2 { Fit tasks (edges_of result_source.now result_sink.now result_delay.now) }
-    ensures { refusal_in result ≡ lost_from tasks (edges_of result_source.now result_sink.now result_delay.now) source.now sink.now delay.now }
+    requires tasks_in_bounds { (tasks ≤ length edges.now) × (length edges.now ≤ 320) × (tasks ≤ 64) }
+    requires fit { Fit tasks (edges_in edges.now) }
+    requires fit_2 { Fit tasks (edges_in made.now) }
+    ensures { refusal_in result ≡ lost_from tasks (edges_in made.now) (edges_in edges.now) }
 {
     let mut known: [u16; 4096] = [FAR; 4096];
-    take_steps(result_source, result_sink, result_delay, &mut known);
+    take_steps(made, &mut known);
     let mut done: u64 = 0;
-    for j in 0..source.len() - tasks {
-        let from = source[tasks + j] as usize;
-        let at = from * WIDTH + sink[tasks + j] as usize;
-        let most = delay[tasks + j] as u16;
+    for (j, e) in edges[tasks..].iter().enumerate() {
+        let from = e.source as usize;
+        let at = from * WIDTH + e.sink as usize;
+        let most = e.delay as u16;
         if most < known[at] {
             done = finish_row(from, tasks, done, &mut known);
             if most < known[at] {
@@ -89,13 +83,9 @@ fn made_result(graph: GraphReading, proposal: ProposalReading) -> ResultEdges
     let end = tasks + graph.edges as usize;
     let proposed = proposal.edges as usize;
     result_edges(
-        &graph.source[0..end],
-        &graph.sink[0..end],
-        &graph.delay[0..end],
+        &graph.ordering[0..end],
         &graph.processor[0..tasks],
-        &proposal.source[0..proposed],
-        &proposal.sink[0..proposed],
-        &proposal.delay[0..proposed],
+        &proposal.proposed[0..proposed],
     )
 }
 
@@ -112,14 +102,9 @@ fn check_cycle(
     let tasks = graph.tasks as usize;
     let proposed = proposal.edges as usize;
     let count = made.count as usize;
-    let reach = paths_between_processors(
-        &made.source[0..count],
-        &made.sink[0..count],
-        &graph.processor[0..tasks],
-    );
+    let reach = paths_between_processors(&made.edges[0..count], &graph.processor[0..tasks]);
     cyclic_edge(
-        &proposal.source[0..proposed],
-        &proposal.sink[0..proposed],
+        &proposal.proposed[0..proposed],
         &graph.processor[0..tasks],
         &reach.words,
     )
@@ -134,15 +119,7 @@ fn check_order(graph: GraphReading, made: ResultEdges) -> Result<(), Fault>
     let tasks = graph.tasks as usize;
     let end = tasks + graph.edges as usize;
     let count = made.count as usize;
-    lost_order(
-        &graph.source[0..end],
-        &graph.sink[0..end],
-        &graph.delay[0..end],
-        &made.source[0..count],
-        &made.sink[0..count],
-        &made.delay[0..count],
-        tasks,
-    )
+    lost_order(&graph.ordering[0..end], &made.edges[0..count], tasks)
 }
 
 // 15, or the latency of a result without cycle of delay 0: it is held against the bound.
@@ -155,9 +132,7 @@ fn check_lateness(graph: GraphReading, made: ResultEdges) -> Result<u32, Fault>
     let tasks = graph.tasks as usize;
     let count = made.count as usize;
     let latency = starts::latency(
-        &made.source[0..count],
-        &made.sink[0..count],
-        &made.delay[0..count],
+        &made.edges[0..count],
         &graph.time[0..tasks],
         graph.output as usize,
     );

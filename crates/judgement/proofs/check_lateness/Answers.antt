@@ -6,27 +6,20 @@ use borrow.Author.Tests.{lt-ltb, le-ltb}
 use Rattle.files.specs.Refusals.{refuse}
 use Rattle.acceptance.proofs.Readings.{graph-within, times-filed, output-there, few-times}
 use Rattle.judgement.specs.Judgement.{Judges}
-use Rattle.judgement.proofs.Judging.{result-sinks, result-delays, result-within, result-ends, late-judged, result-acyclic}
+use Rattle.judgement.proofs.Judging.{result-within, result-ends, late-judged, result-acyclic}
 use Rattle.judgement.proofs.check_lateness.Goals as goal
 
 pub slice_bounds-latency-end : goal.slice_bounds-latency-end
-slice_bounds-latency-end c = (result-within c.requires.accepted_reading c.requires.made.1).0
+slice_bounds-latency-end c = result-within c.requires.accepted_reading c.requires.made.1
 
 pub slice_bounds-latency-end-2 : goal.slice_bounds-latency-end-2
-slice_bounds-latency-end-2 c = (result-within c.requires.accepted_reading c.requires.made.1).1
-
-pub slice_bounds-latency-end-3 : goal.slice_bounds-latency-end-3
-slice_bounds-latency-end-3 c = (result-within c.requires.accepted_reading c.requires.made.1).2
-
-pub slice_bounds-latency-end-4 : goal.slice_bounds-latency-end-4
-slice_bounds-latency-end-4 c = (graph-within c.requires.accepted_reading).time
+slice_bounds-latency-end-2 c = (graph-within c.requires.accepted_reading).time
 
 pub latency-latency-requires : goal.latency-latency-requires
 latency-latency-requires c =
     let graph = c.requires.accepted_reading in
     let made = c.requires.made.1 in
     record {
-      sink_len = (result-sinks graph made, result-delays graph made);
       time_len_bound = (few-times graph, output-there graph);
       ends = result-ends graph made;
       delay_value = result-acyclic graph made c.requires.made_value;

@@ -1,35 +1,20 @@
 -- `judgement::check_order` meets its contract: the fronts of the lists hold the graph's edges and the result's, so the search by them is that in the result.
 use mathlib.Core.Path.{◌∙◌}
 use native.Mathlib.Omega.{arith}
-use Rattle.acceptance.proofs.Readings.{graph-fronts, graph-within, few-tasks, as-many-edges, few-edges, original-fit}
-use Rattle.judgement.proofs.Judging.{result-sinks, result-delays, held-fit, result-within, lost-is}
+use Rattle.acceptance.proofs.Readings.{graph-within, few-tasks, as-many-edges, few-edges, original-fit}
+use Rattle.judgement.proofs.Judging.{held-fit, result-within, lost-is}
 use Rattle.judgement.proofs.check_order.Goals as goal
 
 pub slice_bounds-lost_order-end : goal.slice_bounds-lost_order-end
-slice_bounds-lost_order-end c = (graph-within c.requires.accepted_reading).source
+slice_bounds-lost_order-end c = (graph-within c.requires.accepted_reading).ordering
 
 pub slice_bounds-lost_order-end-2 : goal.slice_bounds-lost_order-end-2
-slice_bounds-lost_order-end-2 c = (graph-within c.requires.accepted_reading).sink
-
-pub slice_bounds-lost_order-end-3 : goal.slice_bounds-lost_order-end-3
-slice_bounds-lost_order-end-3 c = (graph-within c.requires.accepted_reading).delay
-
-pub slice_bounds-lost_order-end-4 : goal.slice_bounds-lost_order-end-4
-slice_bounds-lost_order-end-4 c = (result-within c.requires.accepted_reading c.requires.made.1).0
-
-pub slice_bounds-lost_order-end-5 : goal.slice_bounds-lost_order-end-5
-slice_bounds-lost_order-end-5 c = (result-within c.requires.accepted_reading c.requires.made.1).1
-
-pub slice_bounds-lost_order-end-6 : goal.slice_bounds-lost_order-end-6
-slice_bounds-lost_order-end-6 c = (result-within c.requires.accepted_reading c.requires.made.1).2
+slice_bounds-lost_order-end-2 c = result-within c.requires.accepted_reading c.requires.made.1
 
 pub lost_order-requires : goal.lost_order-requires
 lost_order-requires c =
     let graph = c.requires.accepted_reading in
-    let held = graph-fronts graph in
     record {
-      sink_len = (held.as-many-sinks, held.as-many-delays);
-      result_sink_len = (result-sinks graph c.requires.made.1, result-delays graph c.requires.made.1);
       tasks_in_bounds = (omega (arith, as-many-edges graph), omega (arith, as-many-edges graph, few-edges graph), few-tasks graph);
       fit = original-fit graph;
       fit_2 = held-fit graph c.requires.made.1;

@@ -3,16 +3,19 @@ use mathlib.Core.Path.{◌≡◌}
 use mathlib.Core.Bool.{false}
 use mathlib.Core.List.{List}
 use Prim.Native.Nat.{ℕ, ◌<◌}
-use lib.ListN.{length, get_or}
+use lib.ListN.{length}
+use Rattle.layout.specs.declared.EdgeRecord.{EdgeRecord}
 use Rattle.model.specs.Tasks.{Edge}
-use Rattle.model.specs.Compute.{present, least_delay}
+use Rattle.model.specs.Compute.{on_cycle}
+use Rattle.records.specs.Columns.{edges_in}
+use Rattle.files.specs.Files.{edge_in}
 use Rattle.reach.specs.Reach.{ReachesOn}
 use Rattle.judgement.proofs.cyclic_edge.Given as goal
 
 -- no path leads back from the sink of edge i to its source
-abbrev pub NoneBack : List ℕ → List ℕ → List ℕ → List ℕ → ℕ → Type 0
-NoneBack source sink processor words i =
-    (rs : List Edge) → ReachesOn (length processor) rs processor words → present (least_delay (length processor) rs (get_or sink i 0) (get_or source i 0)) ≡ false
+abbrev pub NoneBack : List EdgeRecord → List ℕ → List ℕ → ℕ → Type 0
+NoneBack edges processor words i =
+    (rs : List Edge) → ReachesOn (length processor) rs processor words → on_cycle (length processor) rs (edge_in (edges_in edges) i) ≡ false
 
 abbrev pub invariant-loop-j : goal.invariant-loop-j
-invariant-loop-j l = ((i : ℕ) → i < l.j → NoneBack l.source l.sink l.processor l.words i)
+invariant-loop-j l = ((i : ℕ) → i < l.j → NoneBack l.edges l.processor l.words i)

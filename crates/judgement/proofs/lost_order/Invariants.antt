@@ -4,9 +4,12 @@ use mathlib.Core.Path.{◌≡◌}
 use mathlib.Core.Bool.{true}
 use Prim.Native.Nat.{ℕ, ◌+◌, ◌<◌}
 use Rattle.model.specs.Compute.{order_holds}
-use Rattle.records.specs.Columns.{held_edge, edges_of}
+use Rattle.records.specs.Columns.{edges_in}
+use Rattle.files.specs.Files.{edge_in}
 use Rattle.delays.specs.Rows.{Known}
 use Rattle.judgement.proofs.lost_order.Given as goal
 
 abbrev pub invariant-loop-j : goal.invariant-loop-j
-invariant-loop-j l = Known l.tasks (edges_of l.result_source l.result_sink l.result_delay) l.done l.known × ((i : ℕ) → i < l.j → order_holds l.tasks (edges_of l.result_source l.result_sink l.result_delay) (held_edge l.source l.sink l.delay (l.tasks + i)) ≡ true)
+invariant-loop-j l =
+    Known l.tasks (edges_in l.made) l.done l.known ×
+    ((i : ℕ) → i < l.j → order_holds l.tasks (edges_in l.made) (edge_in (edges_in l.edges) (l.tasks + i)) ≡ true)
