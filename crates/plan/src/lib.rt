@@ -83,13 +83,7 @@ fn planned(graph: GraphReading) -> GraphPlan
     let tasks = graph.tasks as usize;
     let end = tasks + graph.edges as usize;
     let mut table: [u16; 4096] = [0; 4096];
-    let first = first_stage(
-        &graph.source[0..end],
-        &graph.sink[0..end],
-        &graph.delay[0..end],
-        tasks,
-        &mut table,
-    );
+    let first = first_stage(&graph.ordering[0..end], tasks, &mut table);
     plan_from(graph, first, &mut table)
 }
 

@@ -6,13 +6,7 @@ use Rattle.plan.proofs.Beginning.{first-held, table-held}
 use Rattle.plan.proofs.planned.Goals as goal
 
 pub slice_bounds-first_stage-end : goal.slice_bounds-first_stage-end
-slice_bounds-first_stage-end c = (graph-within c.requires).source
-
-pub slice_bounds-first_stage-end-2 : goal.slice_bounds-first_stage-end-2
-slice_bounds-first_stage-end-2 c = (graph-within c.requires).sink
-
-pub slice_bounds-first_stage-end-3 : goal.slice_bounds-first_stage-end-3
-slice_bounds-first_stage-end-3 c = (graph-within c.requires).delay
+slice_bounds-first_stage-end c = (graph-within c.requires).ordering
 
 pub first_stage-first-requires : goal.first_stage-first-requires
 first_stage-first-requires c =
@@ -21,7 +15,6 @@ first_stage-first-requires c =
     let long = as-many-edges given in
     let few = given.accepted.formed.syncs_formed.few in
     record {
-      sink_len = (held.as-many-sinks, held.as-many-delays);
       tasks_bound = (few-tasks given, omega (arith, long), omega (arith, long, few, held.edges_are));
       fit = original-fit given;
       apart = graph-apart _ given.accepted.formed given.accepted.no_zero_cycle held.tasks-are held.held;
