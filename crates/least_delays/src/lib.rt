@@ -28,12 +28,6 @@ fn write_delays(graph: &[u8], table: &mut [u16]) -> Result<(), Fault>
     let tasks = reading.tasks as usize;
     check_room(tasks * tasks, table.len())?;
     let end = tasks + reading.edges as usize;
-    least_table(
-        &reading.source[0..end],
-        &reading.sink[0..end],
-        &reading.delay[0..end],
-        tasks,
-        table,
-    );
+    least_table(&reading.ordering[0..end], tasks, table);
     Ok(())
 }

@@ -30,12 +30,10 @@ fn marks_of(graph: &GraphReading) -> Marks
 {
     let tasks = graph.tasks as usize;
     let end = tasks + graph.edges as usize;
-    let source = &graph.source[0..end];
-    let sink = &graph.sink[0..end];
-    let delay = &graph.delay[0..end];
+    let edges = &graph.ordering[0..end];
     let mut table = [0; 4096];
-    least_table(source, sink, delay, tasks, &mut table);
-    redundant_marks(source, sink, delay, &table[0..tasks * tasks], tasks)
+    least_table(edges, tasks, &mut table);
+    redundant_marks(edges, &table[0..tasks * tasks], tasks)
 }
 
 // The marks of the redundant edges, edge 1 the most significant bit of the first word, and how many are set.

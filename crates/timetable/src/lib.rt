@@ -30,9 +30,7 @@ fn write_starts(graph: &[u8], turns: usize, starts: &mut [u32]) -> Result<(), Fa
     check_room(tasks * turns, starts.len())?;
     let end = tasks + reading.edges as usize;
     turns_into(
-        &reading.source[0..end],
-        &reading.sink[0..end],
-        &reading.delay[0..end],
+        &reading.ordering[0..end],
         &reading.time[0..tasks],
         turns,
         starts,

@@ -4,7 +4,7 @@ use mathlib.Core.Path.{◌∙◌}
 use native.Mathlib.Omega.{arith}
 use Rattle.files.proofs.First.{handed_back}
 use Rattle.records.proofs.Rows.{product_small}
-use Rattle.acceptance.proofs.AcceptedFiles.{accepted-reading, few-tasks, read-fronts, read-fit}
+use Rattle.acceptance.proofs.AcceptedFiles.{accepted-reading, few-tasks, read-fit}
 use Rattle.acceptance.proofs.Readings.{few-edges}
 use Rattle.acceptance.proofs.Rooms.{room-enough}
 use Rattle.least_delays.proofs.Answers.{file-fault, delays-checked, list-kept, list_written}
@@ -32,9 +32,7 @@ pub least_table-requires : goal.least_table-requires
 least_table-requires c =
     let s = c.args.graph.now in
     let given = c.in_ok-accepted.ensures in
-    let held = read-fronts s given in
     record {
-      sink_len = (held.as-many-sinks, held.as-many-delays);
       tasks_bound = (few-tasks s given, room-enough _ _ c.in_ok-check_room.ensures);
       fit = read-fit s given;
     }

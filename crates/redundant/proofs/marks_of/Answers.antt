@@ -10,21 +10,13 @@ use Rattle.acceptance.proofs.Readings.{graph-fronts, few-tasks, as-many-edges, f
 use Rattle.redundant.proofs.Answers.{lists-marked}
 use Rattle.redundant.proofs.marks_of.Goals as goal
 
-pub slice_bounds-source-end : goal.slice_bounds-source-end
-slice_bounds-source-end c = few-edges c.requires
-
-pub slice_bounds-sink-end : goal.slice_bounds-sink-end
-slice_bounds-sink-end c = few-edges c.requires
-
-pub slice_bounds-delay-end : goal.slice_bounds-delay-end
-slice_bounds-delay-end c = few-edges c.requires
+pub slice_bounds-edges-end : goal.slice_bounds-edges-end
+slice_bounds-edges-end c = few-edges c.requires
 
 pub least_table-requires : goal.least_table-requires
 least_table-requires c =
     let given = c.requires in
-    let held = graph-fronts given in
     record {
-      sink_len = (held.as-many-sinks, held.as-many-delays);
       tasks_bound = (few-tasks given, omega (arith, square-small given, length-replicate {A = ℕ} 4096 0));
       fit = original-fit given;
     }
@@ -40,7 +32,6 @@ redundant_marks-requires c =
     let given = c.requires in
     let held = graph-fronts given in
     record {
-      sink_len = (held.as-many-sinks, held.as-many-delays);
       tasks_bound = (few-tasks given, omega (arith, as-many-edges given, few-edges given));
       fit = original-fit given;
       apart = graph-apart _ given.accepted.formed given.accepted.no_zero_cycle held.tasks-are held.held;

@@ -48,8 +48,8 @@ returns-in_err-check_room c =
 pub slice_bounds-turns_into-end : goal.slice_bounds-turns_into-end
 slice_bounds-turns_into-end c = few-edges (accepted-reading c.args.graph.now c.in_ok-accepted.ensures)
 
-pub slice_bounds-turns_into-end-4 : goal.slice_bounds-turns_into-end-4
-slice_bounds-turns_into-end-4 c = few-tasks c.args.graph.now c.in_ok-accepted.ensures
+pub slice_bounds-turns_into-end-2 : goal.slice_bounds-turns_into-end-2
+slice_bounds-turns_into-end-2 c = few-tasks c.args.graph.now c.in_ok-accepted.ensures
 
 pub turns_into-requires : goal.turns_into-requires
 turns_into-requires c =
@@ -67,8 +67,7 @@ turns_into-requires c =
     let long : n * turns ≤ length starts = subst (λ (k : ℕ). k * turns ≤ length starts) (held.tasks-are ∙ sym as_many) (room-enough _ _ c.in_ok-check_room.ensures) in
     let same : edges g ≡ front_edges reading = sym held.held in
     record {
-      sink_len = (held.as-many-sinks, held.as-many-delays);
-      source_len_bound = omega (arith, few-edges read, as-many-edges read);
+      edges_len_bound = omega (arith, few-edges read, as-many-edges read);
       time_len_bound = (few-times read, omega (arith, (turns-known turns c.in_ok-check_turns.ensures).1), omega (arith, long), omega (arith, as_many, well.input_below));
       ends = subst (λ (es : List Edge). Ends n es) same (subst (λ (k : ℕ). Ends k (edges g)) (sym as_many) (graph-fit g well).ends);
       delay_value = subst (λ (es : List Edge). zero_cycle n es ≡ false) same (subst (λ (k : ℕ). zero_cycle k (edges g) ≡ false) (sym as_many) (acyclic s given));
