@@ -3,6 +3,5 @@ pub mod Fill
 pub mod Nexts
 pub mod Parts
 pub mod Rows
-pub mod Edges
 pub mod Ordered
 pub mod EdgesIn

@@ -1,7 +1,7 @@
--- Lists of numbers that hold tasks and edges, one number of each in each list, and what is written into them.
+-- Lists of numbers that hold tasks, one number of each task in each list; edge records as edges; and what is written into lists.
 use Rattle.std.specs.Prelude.{◌≡◌, List, [], ◌++◌, ℕ, zero, suc, ◌-◌, ◌<◌, map, length, get_or, take, drop, replicate}
 use Rattle.model.specs.Lists.{tabulate}
-use Rattle.model.specs.Tasks.{Task, Edge, no_task, no_edge}
+use Rattle.model.specs.Tasks.{Task, Edge, no_task}
 use Rattle.layout.specs.declared.EdgeRecord.{EdgeRecord}
 
 -- A list of numbers holds one number of each of a list's elements, in their sequence.
@@ -15,26 +15,9 @@ ProcessorsOf ts column = Column no_task (λ t. t.processor) ts column
 abbrev pub TimesOf : List Task → List ℕ → Type 0
 TimesOf ts column = Column no_task (λ t. t.time) ts column
 
-abbrev pub SourcesOf : List Edge → List ℕ → Type 0
-SourcesOf es column = Column no_edge (λ e. e.source) es column
-
-abbrev pub SinksOf : List Edge → List ℕ → Type 0
-SinksOf es column = Column no_edge (λ e. e.sink) es column
-
-abbrev pub DelaysOf : List Edge → List ℕ → Type 0
-DelaysOf es column = Column no_edge (λ e. e.delay) es column
-
 -- the number at a place of a list, counted from 0; past the end 0
 unfoldable pub at : List ℕ → ℕ → ℕ
 at column v = get_or column v 0
-
--- entry i of three lists that hold edges
-unfoldable pub held_edge : List ℕ → List ℕ → List ℕ → ℕ → Edge
-held_edge source sink delay i = record { source = get_or source i 0; sink = get_or sink i 0; delay = get_or delay i 0 }
-
--- the edges that three lists hold, in their sequence
-unfoldable pub edges_of : List ℕ → List ℕ → List ℕ → List Edge
-edges_of source sink delay = tabulate (length source) (held_edge source sink delay)
 
 -- an edge record as an edge
 unfoldable pub edge_of : EdgeRecord → Edge
@@ -47,16 +30,6 @@ record_of e = record { source = e.source; sink = e.sink; delay = e.delay }
 -- edge records as edges, in their sequence
 abbrev pub edges_in : List EdgeRecord → List Edge
 edges_in rs = map edge_of rs
-
--- their sources, their sinks and their delays
-abbrev pub sources_in : List EdgeRecord → List ℕ
-sources_in rs = map (λ r. r.source) rs
-
-abbrev pub sinks_in : List EdgeRecord → List ℕ
-sinks_in rs = map (λ r. r.sink) rs
-
-abbrev pub delays_in : List EdgeRecord → List ℕ
-delays_in rs = map (λ r. r.delay) rs
 
 -- what stands at a place where no edge record is
 abbrev pub no_record : EdgeRecord
