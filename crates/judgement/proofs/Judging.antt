@@ -1,4 +1,4 @@
--- What the code of `judge` finds is the judgement. The fronts of the working lists hold the graph's and the proposed edges, those of the result's lists
+-- What the code of `judge` finds is the judgement. The fronts of the working lists hold the graph's and the proposed edges, that of the result's list
 -- its edges, so the searches by their paths and their delays find what the tests of 13 and 14 say.
 use mathlib.Core.Path.{◌≡◌, refl, sym, ap, ◌∙◌, subst}
 use mathlib.Core.Logic.{◌⊎◌, inl, inr, ◌≢◌}
@@ -153,7 +153,7 @@ module _ {graph : GraphReading} (given : AcceptedReading graph) where
   pub fit-by-processors : Fit (length processor) (front_edges graph)
   fit-by-processors = subst (λ (n : ℕ). Fit n (front_edges graph)) (sym as-many-processors) (original-fit given)
 
-  -- ── The edges of a result in lists ──
+  -- ── The edges of a result in a list ──
 
   module _ {proposed : List Edge} {r : ResultEdges} (made : Made graph proposed r) where
     pub result-held : front_result r ≡ edges (result g proposed)
@@ -165,7 +165,7 @@ module _ {graph : GraphReading} (given : AcceptedReading graph) where
         subst (λ (es : List Edge). Fit graph.tasks es) (sym result-held)
         (subst (λ (n : ℕ). Fit n (edges (result g proposed))) (sym (graph-fronts given).tasks-are) (result-fit g proposed well made.formed))
 
-    -- where the paths of the lists lead, those of the result do
+    -- where the paths of the list lead, those of the result do
     pub result-reached :
         {words : List ℕ} → ReachesOn (length processor) (front_result r) processor words → ReachesOn (length processor) (edges (result g proposed)) processor words
     result-reached {words} reached = subst (λ (es : List Edge). ReachesOn (length processor) es processor words) result-held reached
@@ -182,7 +182,7 @@ module _ {graph : GraphReading} (given : AcceptedReading graph) where
     pub result-ends : Ends (length (front graph.tasks graph.time)) (front_result r)
     result-ends = subst (λ (n : ℕ). Ends n (front_result r)) ((graph-fronts given).tasks-are ∙ sym (graph-fronts given).as-many-times) held-fit.ends
 
-    -- ── 14, by these lists ──
+    -- ── 14, by this list ──
 
     pub lost-is : lost_from graph.tasks (front_result r) (front_edges graph) ≡ lost_in g (result_in r)
     unfolding lost_from lost_in edge_in sync_at
