@@ -56,7 +56,7 @@ fn unit_row(times: &[u32], power: u32, row: &mut [u16])
 }
 
 // 1 if a count exceeds a number, no path leads back, and a source does not end after the latest start of the sink, else 0. Times are compared by a
-// signed test, for which plain x86-64 has a vector instruction.
+// signed test, for which plain x86-64 has a vector instruction; a number, since 64 of them are added up so.
 fn exceeds(count: u16, least: u16, back: u16, end: u16, latest: u16) -> u16
     requires { (end ≤ 32767) × (latest ≤ 32767) }
     ensures few { result ≤ 1 }

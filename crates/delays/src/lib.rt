@@ -14,7 +14,7 @@ ghost use Rattle.delays.specs.Rows.{RowCopied, Low, StepsOf, Known, Relaxed, Sca
 use layout::EdgeRecord;
 use reach::{has_bit, with_bit};
 
-// No path, in a finished row.
+// No path, in a finished row: the number that the lent list of C has there.
 const NO_PATH: u16 = 65535;
 
 // No path, while delays are worked out: above every least delay, and so small that the sum of two is below 32,768 and can be compared as a signed number.

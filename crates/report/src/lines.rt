@@ -63,7 +63,7 @@ fn put_refused_line(out: &mut [u8], at: usize, outcome: Outcome) -> usize
     put(out, margin, NEWLINE)
 }
 
-// Line 3.
+// Line 3. What a call tells is C's record, in which number 0 is success.
 fn put_verdict_line(out: &mut [u8], at: usize, verdict: ProposalVerdict) -> usize
     requires { at + length (verdict_line verdict) ≤ length out.old }
     ensures { Appended at (verdict_line verdict) out.old out.new result }
