@@ -80,18 +80,22 @@ redundant-obeys : (s : List ℕ) → Obeys (graph_checks s) (redundant_of s).out
 unfolding redundant_of
 redundant-obeys s = obeys-plainly (graph_checks s) (acceptance_refusal s) (graph-follows s) (graph-nowhere s)
 
--- the readings, whose refusals are those of their files
+-- the files, and the readings, whose refusals are those of their files
+graph-files-obey : (s : List ℕ) → Obeys (graph_file_checks s) (outcome (graph_refusal s))
+graph-files-obey s =
+    obeys-plainly (graph_file_checks s) (graph_refusal s) (graph-file-follows s) (λ none. ap (λ (r : Refusal). r.place) (graph-file-plain s none))
+
+proposal-files-obey : (n : ℕ) (p : List ℕ) → Obeys (proposal_file_checks n p) (outcome (proposal_refusal n p))
+proposal-files-obey n p =
+    obeys-plainly (proposal_file_checks n p) (proposal_refusal n p) (proposal-file-follows {k = n} {n = n} refl p) (λ none. ap (λ (r : Refusal). r.place) (proposal-file-plain n p none))
+
 read-graph-obeys : (s : List ℕ) (r : Result GraphReading Fault) → GraphRead s r → Obeys (graph_file_checks s) (outcome (refusal_in r))
-read-graph-obeys s r read =
-    subst (λ (q : Refusal). Obeys (graph_file_checks s) (outcome q)) (sym (graph-refusal-given s r read))
-    (obeys-plainly (graph_file_checks s) (graph_refusal s) (graph-file-follows s)
-    (λ none. ap (λ (r : Refusal). r.place) (graph-file-plain s none)))
+read-graph-obeys s r read = subst (λ (q : Refusal). Obeys (graph_file_checks s) (outcome q)) (sym (graph-refusal-given s r read)) (graph-files-obey s)
 
 read-proposal-obeys :
     (n : ℕ) (p : List ℕ) (r : Result ProposalReading Fault) → ProposalRead n p r → Obeys (proposal_file_checks n p) (outcome (refusal_in r))
 read-proposal-obeys n p r read =
-    subst (λ (q : Refusal). Obeys (proposal_file_checks n p) (outcome q)) (sym (proposal-refusal-given n p r read))
-    (obeys-plainly (proposal_file_checks n p) (proposal_refusal n p) (proposal-file-follows {k = n} {n = n} refl p) (λ none. ap (λ (r : Refusal). r.place) (proposal-file-plain n p none)))
+    subst (λ (q : Refusal). Obeys (proposal_file_checks n p) (outcome q)) (sym (proposal-refusal-given n p r read)) (proposal-files-obey n p)
 
 -- the outcome's number is the refusal's
 plan-number : (s : List ℕ) (room : ℕ) → (plan_answer_of s room).outcome.number ≡ (plan_refusal s room).number
@@ -101,6 +105,8 @@ plan-number s room = refl
 pub demand1-met : Demand1
 demand1-met =
     record {
+      graph_files = graph-files-obey;
+      proposal_files = proposal-files-obey;
       read_graph = read-graph-obeys;
       read_proposal = read-proposal-obeys;
       figures = figures-obey;

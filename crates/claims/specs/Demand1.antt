@@ -13,7 +13,7 @@ use Rattle.model.specs.Proposals.{result}
 use Rattle.bits.specs.Bits.{bit_at}
 use Rattle.layout.specs.declared.EdgeRecord.{EdgeRecord}
 use Rattle.layout.specs.Layout.{graph_header, proposal_header, bytes_for}
-use Rattle.files.specs.Files.{task_count, edge_count, graph_bits, proposal_bits, graph_of, proposal_of, edge_in}
+use Rattle.files.specs.Files.{task_count, edge_count, graph_bits, proposal_bits, graph_of, proposal_of, edge_in, graph_refusal, proposal_refusal}
 use Rattle.files.specs.declared.Fault.{Fault}
 use Rattle.files.specs.Refusals.{refusal_in}
 use Rattle.readings.specs.declared.GraphReading.{GraphReading}
@@ -210,6 +210,8 @@ pub record LateTold (result : Graph) (o : Outcome) : Type 0 where
 -- `plan_answer_of s room` and `verdict_of s p`, where room is the length of the lent list, and leave `delays_after`, `timetable_after` and `plan_after` in it.
 pub record Demand1 : Type 0 where
   -- the readings: 1 to 8 alone, of a proposal beside any number n of tasks; they tell number and place, and `outcome` puts 0 for latency and margin
+  pub graph_files : (s : List ℕ) → Obeys (graph_file_checks s) (outcome (graph_refusal s))
+  pub proposal_files : (n : ℕ) (p : List ℕ) → Obeys (proposal_file_checks n p) (outcome (proposal_refusal n p))
   pub read_graph : (s : List ℕ) (r : Result GraphReading Fault) → GraphRead s r → Obeys (graph_file_checks s) (outcome (refusal_in r))
   pub read_proposal :
       (n : ℕ) (p : List ℕ) (r : Result ProposalReading Fault) → ProposalRead n p r → Obeys (proposal_file_checks n p) (outcome (refusal_in r))

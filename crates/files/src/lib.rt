@@ -1,4 +1,4 @@
-// Which refusal of 1 to 8 a file gets: the checks of graph and proposal files, in document 01's sequence.
+// What can be wrong, with its number and place; and the checks of graph and proposal files, 1 to 8 in document 01's sequence.
 #![tactic(auto)]
 
 ghost use Rattle.std.specs.Prelude.{◌≡◌};
