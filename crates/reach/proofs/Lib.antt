@@ -2,3 +2,4 @@
 pub mod Bits
 pub mod Rounds
 pub mod Processors
+pub mod Delays

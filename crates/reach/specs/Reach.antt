@@ -1,6 +1,6 @@
 -- Only for contracts inside: words hold which processors a path leads to. Between processors go edges too, whose ends are processors.
 use Rattle.std.specs.Prelude.{◌≡◌, Bool, ◌||◌, ◌&&◌, List, ℕ, ◌/◌, ◌%◌, ◌^◌, ◌<◌, eqb, length, get_or}
-use Rattle.model.specs.Tasks.{Edge}
+use Rattle.model.specs.Tasks.{Edge, Ends, no_edge}
 use Rattle.model.specs.Paths.{Path}
 use Rattle.model.specs.Compute.{present, least_delay, through}
 use Rattle.records.specs.Columns.{at}
@@ -42,3 +42,21 @@ Circled n es processor = (a b : ℕ) → a < n → b < n → at processor a ≡ 
 pub record ReachesOn (n : ℕ) (es : List Edge) (processor words : List ℕ) : Type 0 where
   pub room : length words ≡ 16
   pub paths : (a b : ℕ) → a < n → b < n → bit_in words (at processor a) (at processor b) ≡ present (least_delay n es a b)
+
+-- ── Whatever the delays (proved in proofs/Delays.antt) ──
+
+-- two lists of edges have the same ends, place by place; their delays are free
+pub record SameEnds (es fs : List Edge) : Type 0 where
+  pub as_many : length es ≡ length fs
+  pub sources : (i : ℕ) → (get_or es i no_edge).source ≡ (get_or fs i no_edge).source
+  pub sinks : (i : ℕ) → (get_or es i no_edge).sink ≡ (get_or fs i no_edge).sink
+
+-- words that say where paths of es lead say the same of edges with the same ends and other delays
+abbrev pub WhateverDelays : Type 0
+WhateverDelays =
+    (n : ℕ) (es fs : List Edge) (processor words : List ℕ) → Ends n es → Ends n fs → SameEnds es fs →
+    ReachesOn n es processor words → ReachesOn n fs processor words
+
+-- and where tasks lead to each one of their processor over es, they do over edges with the same ends and other delays
+abbrev pub CircledWhateverDelays : Type 0
+CircledWhateverDelays = (n : ℕ) (es fs : List Edge) (processor : List ℕ) → SameEnds es fs → Circled n es processor → Circled n fs processor
