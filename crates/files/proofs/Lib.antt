@@ -6,3 +6,4 @@ pub mod Repeated
 pub mod Frame
 pub mod Example
 pub mod Numbers
+pub mod Faults

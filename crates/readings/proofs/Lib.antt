@@ -4,3 +4,4 @@ pub mod Passed
 pub mod Columns
 pub mod Accepted
 pub mod Held
+pub mod Answered

@@ -1,4 +1,4 @@
--- The theorems about readings, as statements. proofs/Accepted.antt proves the first two, proofs/Held.antt the others.
+-- The theorems about readings, as statements. proofs/Accepted.antt proves the first two, proofs/Answered.antt those about answers, proofs/Held.antt the others.
 use Rattle.std.specs.Prelude.{◌≡◌, List, ℕ, ◌+◌, ◌≤◌, length, take, Result, Ok}
 use Rattle.model.specs.Tasks.{Edge}
 use Rattle.model.specs.Graph.{Graph, WellFormed, WellFormedEdges, count, edges}
@@ -54,3 +54,11 @@ GraphInWorking = (g : Graph) → count g ≤ 64 → length g.syncs ≤ 256 → g
 
 abbrev pub ProposedInWorking : Type 0
 ProposedInWorking = (es : List Edge) → length es ≤ 256 → proposed_in (working_proposal es) ≡ es
+
+-- Every graph file gets an answer.
+abbrev pub GraphAnswered : Type 0
+GraphAnswered = (s : List ℕ) → (r : Result GraphReading Fault) × GraphRead s r
+
+-- Every proposal file gets an answer, beside a graph of any number of tasks.
+abbrev pub ProposalAnswered : Type 0
+ProposalAnswered = (n : ℕ) (s : List ℕ) → (r : Result ProposalReading Fault) × ProposalRead n s r
