@@ -1,17 +1,13 @@
 -- 8's test and its refusal, and the comparison of two edges by their records: the test is true exactly if some earlier
 -- edge is the same.
-use mathlib.Core.Path.{◌≡◌, refl, sym, ap, ◌∙◌}
-use mathlib.Core.Bool.{true, false, ◌||◌}
+use mathlib.Core.Path.{◌≡◌, sym, ap, ◌∙◌}
+use mathlib.Core.Bool.{true, false}
 use mathlib.Core.List.{List}
-use Prim.Native.Nat.{ℕ, zero, suc, ◌+◌, ◌<◌, ◌≤◌}
+use Prim.Native.Nat.{ℕ, suc, ◌+◌, ◌<◌}
 use native.Mathlib.Numerals.{add-one}
-use native.Mathlib.Omega.{arith}
-use lib.ListN.{length, get_or, take}
-use Rattle.std.specs.List.{list_any}
-use Rattle.std.proofs.lemmas.List.Folds.{list_any_more}
+use lib.ListN.{get_or}
 use Rattle.layout.specs.declared.EdgeRecord.{EdgeRecord}
 use Rattle.model.specs.Tasks.{Edge}
-use Rattle.model.specs.Lists.{any_below}
 use Rattle.model.specs.Compute.{same_edge}
 use Rattle.model.proofs.Basics.{any-in, any_out}
 use Rattle.model.proofs.Tests.{same-edge, decides-iff, decides-true, decides-yes}
@@ -47,14 +43,3 @@ repeat-passes es j is = not-refused _ _ is
 pub same_records : (rs : List EdgeRecord) (i j : ℕ) →
     same_edge (edge_in (edges_in rs) i) (edge_in (edges_in rs) j) ≡ same_edge (edge_of (get_or rs i no_record)) (edge_of (get_or rs j no_record))
 same_records rs i j = λ d. same_edge (edge-is rs i d) (edge-is rs j d)
-
--- a search of the records for edge j's, over the first n, is one of the edges
-pub search-is : (rs : List EdgeRecord) (j n : ℕ) → n ≤ length rs →
-    list_any (λ r. same_edge (edge_of r) (edge_of (get_or rs j no_record))) (take n rs) ≡
-    any_below n (λ i. same_edge (edge_in (edges_in rs) i) (edge_in (edges_in rs) j))
-unfolding any_below
-search-is rs j zero l = refl
-search-is rs j (suc n) l =
-    ap (λ (m : ℕ). list_any (λ r. same_edge (edge_of r) (edge_of (get_or rs j no_record))) (take m rs)) (sym (add-one n)) ∙
-    (list_any_more (λ r. same_edge (edge_of r) (edge_of (get_or rs j no_record))) rs n no_record (omega arith) ∙
-    (λ d. search-is rs j n (omega arith) d || sym (same_records rs n j) d))
