@@ -13,7 +13,10 @@ use Rattle.model.proofs.Walks.{walk_from}
 use Rattle.model.proofs.Least.{least-delay}
 use Rattle.reach.specs.Reach.{SameEnds, WhateverDelays, CircledWhateverDelays}
 
-same-ends-back : {es fs : List Edge} → SameEnds es fs → SameEnds fs es
+pub same-ends : (es : List Edge) → SameEnds es es
+same-ends es = record { as_many = refl; sources = λ i. refl; sinks = λ i. refl }
+
+pub same-ends-back : {es fs : List Edge} → SameEnds es fs → SameEnds fs es
 same-ends-back same = record { as_many = sym same.as_many; sources = λ i. sym (same.sources i); sinks = λ i. sym (same.sinks i) }
 
 module _ {es fs : List Edge} (same : SameEnds es fs) where
@@ -27,6 +30,12 @@ module _ {es fs : List Edge} (same : SameEnds es fs) where
         sym (same.sources i) ∙ ap (λ (x : Edge). x.source) r.2,
         sym (same.sinks i) ∙ ap (λ (x : Edge). x.sink) r.2,
       )
+
+  pub ends-too : {n : ℕ} → Ends n fs → Ends n es
+  ends-too {n} ends e m =
+      let f = counterpart e m in
+      let inside = ends f.0 f.1 in
+      (subst (λ (v : ℕ). v < n) f.2 inside.0, subst (λ (v : ℕ). v < n) f.3 inside.1)
 
   other-walk : {a b : ℕ} {p : List Edge} → Walk es a p b → (q : List Edge) × Walk fs a q b
   other-walk (stop q) = ([], stop q)

@@ -4,7 +4,7 @@
 ghost use Rattle.std.specs.Prelude.{◌≡◌, ◌||◌, ◌&&◌, List, ℕ, ◌≤◌, ◌<◌, eqb, map, length, get_or, replicate};
 ghost use Rattle.model.specs.Tasks.{Edge, Ends};
 ghost use Rattle.records.specs.Columns.{at, edges_in};
-ghost use Rattle.reach.specs.Reach.{bit, Reaches, ReachesThrough, Merged, between, Circled, ReachesOn};
+ghost use Rattle.reach.specs.Reach.{bit, Reaches, ReachesThrough, Merged, between, Circled, ReachesOn, SameEnds};
 
 use layout::EdgeRecord;
 
@@ -91,11 +91,11 @@ fn processors_used(processor: &[u8]) -> usize
 }
 
 // Between which processors a path leads, and so between which tasks, where tasks of one processor lead to one another: rounds over the processors used,
-// at most 16, serve 64 tasks.
+// at most 16, serve 64 tasks. It holds of all edges with the same ends, whatever their delays.
 pub fn paths_between_processors<'a>(edges: &'a [EdgeRecord], processor: &'a [u8]) -> Reach
     requires ends { Ends (length processor.now) (edges_in edges.now) }
     requires by_index { (v : ℕ) → v < length processor.now → at processor.now v < 16 }
-    ensures { Circled (length processor.now) (edges_in edges.now) processor.now → ReachesOn (length processor.now) (edges_in edges.now) processor.now result.words }
+    ensures { (es : List Edge) → SameEnds (edges_in edges.now) es → Circled (length processor.now) es processor.now → ReachesOn (length processor.now) es processor.now result.words }
 {
     let mut words = [0; 16];
     take_between(edges, processor, &mut words);
