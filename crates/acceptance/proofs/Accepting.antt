@@ -1,7 +1,8 @@
--- What `accept` gives is `acceptance` of the bytes, or their refusal: where reading fails, the first part of the chain ends it; else the checks on the
--- fronts of the lists are those of the graph that they hold.
-use mathlib.Core.Path.{◌≡◌, sym, ◌∙◌}
-use Rattle.std.proofs.Common.{Ok}
+-- What `accept` gives is `acceptance` of the bytes, or their refusal and what was read: where reading fails, the first part of the chain ends it; else the
+-- checks on the fronts of the lists are those of the graph that they hold.
+use mathlib.Core.Path.{◌≡◌, sym, ap, ◌∙◌}
+use mathlib.Core.Logic.{◌≢◌}
+use Rattle.std.proofs.Common.{None, Some, Ok, Err}
 use mathlib.Core.List.{List, [], ◌∷◌}
 use Prim.Native.Nat.{ℕ}
 use lib.ListN.{length}
@@ -12,10 +13,10 @@ use Rattle.files.specs.declared.Refusal.{Refusal}
 use Rattle.files.specs.declared.Fault.{Fault}
 use Rattle.files.specs.Refusals.{refusal_of, Gives}
 use Rattle.files.specs.Files.{graph_of, graph_refusal}
-use Rattle.files.proofs.First.{passes, stops, last-answer, number_same, fault-number}
+use Rattle.files.proofs.First.{passes, stops, last-answer, number_same, fault-number, if-passed, if-refused}
 use Rattle.readings.specs.declared.GraphReading.{GraphReading}
 use Rattle.readings.specs.Working.{working_graph}
-use Rattle.acceptance.specs.Acceptance.{schedule_checks, schedule_refusal, acceptance_refusal, acceptance, Accepts}
+use Rattle.acceptance.specs.Acceptance.{schedule_checks, schedule_refusal, acceptance_refusal, acceptance, refused_reading, Accepts}
 use Rattle.acceptance.specs.Theorems.{RefusedBefore, JudgedAfter}
 use Rattle.acceptance.proofs.Fronts.{front, front_edges, Fronts, fronts, formed, Within, fronts-within}
 
@@ -28,9 +29,12 @@ pub judged-after : JudgedAfter
 unfolding acceptance_refusal schedule_refusal schedule_checks
 judged-after s none = passes (graph_refusal s) (schedule_refusal (graph_of s) ∷ []) none ∙ last-answer _
 
--- where reading fails, its fault is the chain's
-pub read-refused : (s : List ℕ) (fault : Fault) → refusal_of fault ≡ graph_refusal s → refusal_of fault ≡ acceptance_refusal s
-read-refused s fault is = is ∙ sym (refused-before s (λ none. fault-number fault (number_same is ∙ none)))
+-- where reading fails, its fault is the chain's, and nothing is handed over
+pub unread : (s : List ℕ) (fault : Fault) → refusal_of fault ≡ graph_refusal s → Accepts s (Err (record { fault = fault; reading = None }))
+unfolding refused_reading
+unread s fault is =
+    let some : (graph_refusal s).number ≢ 0 = λ none. fault-number fault (number_same is ∙ none) in
+    record { refusal = is ∙ sym (refused-before s some); value = tt; reading = sym (if-refused (graph_refusal s).number (Some (working_graph (graph_of s))) None some) }
 
 -- What was read of a file that passes up to 8.
 module _ (s : List ℕ) {r : GraphReading} (read : Gives (Ok r) (graph_refusal s) (working_graph (graph_of s))) where
@@ -65,4 +69,15 @@ module _ (s : List ℕ) {r : GraphReading} (read : Gives (Ok r) (graph_refusal s
   accepts checked =
       let f = read-held in
       let end = checked.value ∙ (λ i. latency (f.as-many-times i) (f.held i) (f.times_are i) (f.output_is i)) in
-      record { refusal = judged checked.refusal; value = λ i. record { latency = end i; reading = read.value i } }
+      record { refusal = judged checked.refusal; value = λ i. record { latency = end i; reading = read.value i }; reading = tt }
+
+  -- where a check refuses, its fault is the chain's, and what was read is handed over
+  pub refuses :
+      {fault : Fault} → refusal_of fault ≡ schedule_checks (length (front r.tasks r.time)) (front_edges r) (at (front r.tasks r.time)) r.input r.output r.bound →
+      Accepts s (Err (record { fault = fault; reading = Some r }))
+  unfolding refused_reading
+  refuses checked = record {
+    refusal = judged checked;
+    value = tt;
+    reading = ap Some read.value ∙ sym (if-passed (graph_refusal s).number (Some (working_graph (graph_of s))) None passed);
+  }

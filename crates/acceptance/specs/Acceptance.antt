@@ -1,16 +1,16 @@
 -- Document 01, "Who caused a refusal": 9 to 12, and which refusal up to 12 a graph file gets.
-use Rattle.std.specs.Prelude.{◌≡◌, not, List, [], ◌∷◌, ℕ, ltb, Result}
+use Rattle.std.specs.Prelude.{◌≡◌, not, List, [], ◌∷◌, ℕ, ltb, Option, None, Some, Result, Ok, Err, IfOk, IfErr}
 use Rattle.model.specs.Tasks.{Edge}
 use Rattle.model.specs.Graph.{Graph, count, edges, time_of}
 use Rattle.model.specs.Compute.{zero_cycle, input_free, joined, latency, latency_of}
 use Rattle.model.specs.Proposals.{AcceptedGraph}
-use Rattle.files.specs.declared.Fault.{Fault}
 use Rattle.files.specs.declared.Refusal.{Refusal}
 use Rattle.files.specs.Files.{graph_of, graph_refusal}
-use Rattle.files.specs.Refusals.{refuse, first, Gives}
+use Rattle.files.specs.Refusals.{not_refused, refusal_of, refuse, first, if_passed}
 use Rattle.readings.specs.declared.GraphReading.{GraphReading}
 use Rattle.readings.specs.Working.{working_graph, graph_in}
 use Rattle.acceptance.specs.declared.Acceptance.{Acceptance}
+use Rattle.acceptance.specs.declared.RefusedGraph.{RefusedGraph}
 
 -- "9: a cycle of total delay 0. 10: the input has an incoming edge of delay 0. 11: input equals output, or no path of delay 0 joins them. 12: the
 -- bound is below the graph's latency.", of n tasks, their edges and times; in this sequence
@@ -35,9 +35,20 @@ acceptance_refusal s = first (graph_refusal s ∷ schedule_refusal (graph_of s) 
 unfoldable pub acceptance : List ℕ → Acceptance
 acceptance s = record { latency = latency_of (graph_of s); reading = working_graph (graph_of s) }
 
--- what reading and judging a graph file up to 12 gives
-abbrev pub Accepts : List ℕ → Result Acceptance Fault → Type 0
-Accepts s answer = Gives answer (acceptance_refusal s) (acceptance s)
+-- what a refusal hands over: a file that passes up to 8 in its working form, nothing of another
+unfoldable pub refused_reading : List ℕ → Option GraphReading
+refused_reading s = if_passed (graph_refusal s).number (Some (working_graph (graph_of s))) None
+
+-- what is refused: nothing if the graph is accepted
+abbrev pub refusal_told : Result Acceptance RefusedGraph → Refusal
+refusal_told (Ok accepted) = not_refused
+refusal_told (Err refused) = refusal_of refused.fault
+
+-- What reading and judging a graph file up to 12 gives: the refusal that it gets; if there is none the acceptance, else the file as far as it was read.
+pub record Accepts (s : List ℕ) (answer : Result Acceptance RefusedGraph) : Type 0 where
+  pub refusal : refusal_told answer ≡ acceptance_refusal s
+  pub value : IfOk answer (λ accepted. accepted ≡ acceptance s)
+  pub reading : IfErr answer (λ refused. refused.reading ≡ refused_reading s)
 
 -- Only for contracts inside: an accepted graph in its working form.
 pub record AcceptedReading (graph : GraphReading) : Type 0 where

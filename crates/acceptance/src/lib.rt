@@ -23,6 +23,23 @@ pub struct Acceptance {
     pub reading: GraphReading,
 }
 
+// A refused graph: the fault, and the file as read where 1 to 8 let it pass. The file comes before the fault, since it then lies where an `Acceptance` has
+// it: otherwise an accepted graph is copied once more.
+#[derive(Clone, Copy)]
+pub struct RefusedGraph {
+    pub reading: Option<GraphReading>,
+    pub fault: Fault,
+}
+
+// A call that tells the fault has no use for the file.
+impl From<RefusedGraph> for Fault {
+    ghost from_gives = { λ refused fault. fault ≡ refused.fault };
+
+    fn from(refused: RefusedGraph) -> Fault {
+        refused.fault
+    }
+}
+
 // What a call says: number 0 if it succeeds, else document 01's number of the refusal, and place, latency and margin where 01
 // names them for that number, 0 elsewhere.
 #[repr(C)]
@@ -113,19 +130,35 @@ fn check_schedule<'a>(
 }
 
 // Reads a graph file and judges it up to 12, for every list of bytes.
-pub fn accept(graph: &[u8]) -> Result<Acceptance, Fault>
+pub fn accept(graph: &[u8]) -> Result<Acceptance, RefusedGraph>
     ensures { Accepts graph.now result }
 {
-    let reading = read_graph(graph)?;
+    let reading = match read_graph(graph) {
+        Ok(reading) => reading,
+        Err(fault) => {
+            return Err(RefusedGraph {
+                fault,
+                reading: None,
+            });
+        }
+    };
     let tasks = reading.tasks as usize;
     let end = tasks + reading.edges as usize;
-    let latency = check_schedule(
+    let latency = match check_schedule(
         &reading.ordering[0..end],
         &reading.time[0..tasks],
         reading.input as usize,
         reading.output as usize,
         reading.bound,
-    )?;
+    ) {
+        Ok(least) => least,
+        Err(fault) => {
+            return Err(RefusedGraph {
+                fault,
+                reading: Some(reading),
+            });
+        }
+    };
     Ok(Acceptance { latency, reading })
 }
 

@@ -27,8 +27,8 @@ pub fn figures(graph: &[u8]) -> GraphFigures
             edges: accepted.reading.edges,
             latency: accepted.latency,
         },
-        Err(fault) => GraphFigures {
-            outcome: fault.into(),
+        Err(refused) => GraphFigures {
+            outcome: refused.fault.into(),
             tasks: 0,
             edges: 0,
             latency: 0,

@@ -10,6 +10,7 @@ use Rattle.files.specs.Refusals.{refusal_of, not_refused}
 use Rattle.files.proofs.First.{number_same, fault-number, ends_with, if-refused, if-passed}
 use Rattle.delays.specs.Delays.{delay_table}
 use Rattle.acceptance.specs.declared.Acceptance.{Acceptance}
+use Rattle.acceptance.specs.declared.RefusedGraph.{RefusedGraph}
 use Rattle.acceptance.specs.Acceptance.{Accepts}
 use Rattle.acceptance.specs.Outcomes.{room_refusal, tasks_of}
 use Rattle.acceptance.proofs.AcceptedFiles.{read-fronts}
@@ -19,9 +20,9 @@ use Rattle.least_delays.specs.LeastDelays.{table_of, delays_refusal, delays_afte
 
 module _ (s table : List ℕ) where
   -- a fault of the file ends the chain
-  pub file-fault : {fault : Fault} → Accepts s (Err fault) → refusal_of fault ≡ delays_refusal s (length table)
+  pub file-fault : {refused : RefusedGraph} → Accepts s (Err refused) → refusal_of refused.fault ≡ delays_refusal s (length table)
   unfolding delays_refusal
-  file-fault {fault} given = sym (ends_with (room_refusal (tasks_of s * tasks_of s) (length table) ∷ []) given.refusal (fault-number fault))
+  file-fault {refused} given = sym (ends_with (room_refusal (tasks_of s * tasks_of s) (length table) ∷ []) given.refusal (fault-number refused.fault))
 
   pub list-kept : (fault : Fault) → refusal_of fault ≡ delays_refusal s (length table) → table ≡ delays_after s table
   unfolding delays_after

@@ -50,8 +50,8 @@ pub fn redundant(graph: &[u8]) -> RedundantSet
                 count,
             }
         }
-        Err(fault) => RedundantSet {
-            outcome: fault.into(),
+        Err(refused) => RedundantSet {
+            outcome: refused.fault.into(),
             marks: Marks { words: [0; 4] },
             count: 0,
         },

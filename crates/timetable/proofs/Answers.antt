@@ -11,6 +11,7 @@ use Rattle.files.specs.Refusals.{refusal_of, refuse, not_refused}
 use Rattle.files.proofs.First.{number_same, fault-number, ends_with, goes_on, if-refused, if-passed}
 use Rattle.starts.specs.Starts.{turn_rows}
 use Rattle.acceptance.specs.declared.Acceptance.{Acceptance}
+use Rattle.acceptance.specs.declared.RefusedGraph.{RefusedGraph}
 use Rattle.acceptance.specs.Acceptance.{Accepts}
 use Rattle.acceptance.specs.Outcomes.{room_refusal, tasks_of}
 use Rattle.acceptance.proofs.AcceptedFiles.{read-fronts}
@@ -38,9 +39,9 @@ module _ (s : List ℕ) (turns : ℕ) (starts : List ℕ) where
 
   -- the rest, where the turns are not refused
   module _ (inside : not_refused ≡ turns_refusal turns) where
-    pub file-fault : {fault : Fault} → Accepts s (Err fault) → refusal_of fault ≡ timetable_refusal s turns (length starts)
+    pub file-fault : {refused : RefusedGraph} → Accepts s (Err refused) → refusal_of refused.fault ≡ timetable_refusal s turns (length starts)
     unfolding timetable_refusal
-    file-fault {fault} given = sym (goes_on _ inside refl ∙ ends_with _ given.refusal (fault-number fault))
+    file-fault {refused} given = sym (goes_on _ inside refl ∙ ends_with _ given.refusal (fault-number refused.fault))
 
     module _ {r : Acceptance} (given : Accepts s (Ok r)) where
       pub timetable-checked : {q : Refusal} → q ≡ room_refusal (r.reading.tasks * turns) (length starts) → q ≡ timetable_refusal s turns (length starts)

@@ -71,7 +71,7 @@ pub fn verdict(graph: &[u8], proposal: &[u8]) -> ProposalVerdict
 {
     let reading = match accept(graph) {
         Ok(accepted) => accepted.reading,
-        Err(fault) => return refused(fault),
+        Err(unaccepted) => return refused(unaccepted.fault),
     };
     let proposed = match read_proposal(proposal, reading.tasks as usize) {
         Ok(proposed) => proposed,

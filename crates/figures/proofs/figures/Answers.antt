@@ -8,4 +8,4 @@ unfolding outcome
 returns-in-Ok c = answer-read c.args.graph.now c.in-Ok.ensures
 
 pub returns-in-Err : goal.returns-in-Err
-returns-in-Err c = answer-refused c.args.graph.now c.in-Err.fault c.in-Err.ensures.refusal c.into.ensures
+returns-in-Err c = answer-refused c.args.graph.now c.in-Err.refused.fault c.in-Err.ensures.refusal c.into.ensures

@@ -14,4 +14,4 @@ returns-in-Ok c = answer-read c.args.graph.now c.in-Ok.ensures c.marks_of-marks.
 
 pub returns-in-Err : goal.returns-in-Err
 unfolding no_marks
-returns-in-Err c = answer-refused c.args.graph.now c.in-Err.fault c.in-Err.ensures.refusal c.into.ensures
+returns-in-Err c = answer-refused c.args.graph.now c.in-Err.refused.fault c.in-Err.ensures.refusal c.into.ensures

@@ -3,7 +3,7 @@ use Rattle.verdict.proofs.Answers.{graph-refused, proposal-refused, judgeable, j
 use Rattle.verdict.proofs.verdict.Goals as goal
 
 pub returns-in-Err : goal.returns-in-Err
-returns-in-Err c = graph-refused c.args.graph.now c.args.proposal.now c.in-Err.fault c.in-Err.ensures.refusal c.refused.ensures
+returns-in-Err c = graph-refused c.args.graph.now c.args.proposal.now c.in-Err.unaccepted.fault c.in-Err.ensures.refusal c.refused.ensures
 
 pub returns-in-Err-read_proposal : goal.returns-in-Err-read_proposal
 returns-in-Err-read_proposal c =
