@@ -123,7 +123,7 @@ word_count marks w fits =
 first_block : (marked : ℕ → Bool) → set_below 64 marked ≡ set_below 64 (λ j. marked (64 * 0 + j))
 first_block marked = set-below-same 64 marked (λ j. marked (64 * 0 + j)) (λ j l. let same : j ≡ 64 * 0 + j = omega arith in ap marked same)
 
-sum_four : (f : ℕ → ℕ) (xs : List ℕ) → length xs ≡ 4 → sum_by f xs ≡ f (get_or xs 0 0) + f (get_or xs 1 0) + f (get_or xs 2 0) + f (get_or xs 3 0)
+pub sum_four : (f : ℕ → ℕ) (xs : List ℕ) → length xs ≡ 4 → sum_by f xs ≡ f (get_or xs 0 0) + f (get_or xs 1 0) + f (get_or xs 2 0) + f (get_or xs 3 0)
 sum_four f (a ∷ b ∷ c ∷ d ∷ []) four = omega arith
 sum_four f [] four = absurd (omega arith)
 sum_four f (a ∷ []) four = absurd (omega arith)

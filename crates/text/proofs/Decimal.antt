@@ -68,6 +68,16 @@ digits_last n last = ap length (decimal-last n last)
 pub digits-some : (n : ℕ) → 1 ≤ length (decimal n)
 digits-some n = ⊎_elim (λ more. omega (arith, digits_more n more)) (λ last. omega (arith, digits_last n last)) (order 10 n)
 
+-- numbers that differ in their last digit alone have as many
+pub digits_alike : (m n : ℕ) → m / 10 ≡ n / 10 → length (decimal m) ≡ length (decimal n)
+digits_alike m n tens = go (order 10 n)
+  where
+    go : (10 ≤ n) ⊎ (n < 10) → length (decimal m) ≡ length (decimal n)
+    go (inl more) =
+        digits_more m (omega (arith, more, tens)) ∙
+        (ap (λ (k : ℕ). length (decimal k) + 1) tens ∙ sym (digits_more n more))
+    go (inr last) = digits_last m (omega (arith, last, tens)) ∙ sym (digits_last n last)
+
 -- a number below the power of ten of k has at most k digits
 pub digits-within : (k n : ℕ) → n < 10 ^ suc k → length (decimal n) ≤ suc k
 digits-within zero n h = let last : n < 10 = h in omega (arith, digits_last n last)

@@ -47,15 +47,15 @@ module _ (edges : List EdgeRecord) (processor : List ℕ) (ends : Ends (length p
       (sym (is.paths e.sink e.source sink_below source_below) ∙ ((λ i. bit (get_or words (sym to_is i) 0) (sym from-is i)) ∙ sym b_is))
 
 pub processor_of-from-requires : goal.processor_of-from-requires
-processor_of-from-requires c = source_below c.args.edges.now c.args.processor.now c.requires.ends c.loop-j-test.true
+processor_of-from-requires c = source_below c.args.edges.now c.args.processor.now c.requires.ends (omega (arith, c.loop-j-test.true))
 
 pub processor_of-to-requires : goal.processor_of-to-requires
-processor_of-to-requires c = sink_below c.args.edges.now c.args.processor.now c.requires.ends c.loop-j-test.true
+processor_of-to-requires c = sink_below c.args.edges.now c.args.processor.now c.requires.ends (omega (arith, c.loop-j-test.true))
 
 pub leads_to-requires : goal.leads_to-requires
 leads_to-requires c =
-    let to = sink-small c.args.edges.now c.args.processor.now c.requires.ends c.loop-j-test.true c.requires.by_index c.processor_of-to.ensures in
-    let from = source-small c.args.edges.now c.args.processor.now c.requires.ends c.loop-j-test.true c.requires.by_index c.processor_of-from.ensures in
+    let to = sink-small c.args.edges.now c.args.processor.now c.requires.ends (omega (arith, c.loop-j-test.true)) c.requires.by_index c.processor_of-to.ensures in
+    let from = source-small c.args.edges.now c.args.processor.now c.requires.ends (omega (arith, c.loop-j-test.true)) c.requires.by_index c.processor_of-from.ensures in
     (omega (arith, to, from, c.requires.edges_len_bound.1), omega (arith, to, from))
 
 pub returns-then-leads_to : goal.returns-then-leads_to

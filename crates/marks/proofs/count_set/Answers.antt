@@ -1,5 +1,5 @@
 -- `marks::count_set` meets its contract: the ones of the four words are the marks set (`count-words`), of which there are at most 256.
-use mathlib.Core.Path.{◌≡◌, ◌∙◌}
+use mathlib.Core.Path.{◌≡◌}
 use Prim.Native.Nat.{◌<◌, ◌^◌}
 use native.Mathlib.Omega.{arith}
 use lib.Count.{ones}
@@ -9,7 +9,7 @@ use mir.Val.{Fits}
 use borrow.Author.Rules.{rules}
 use Rattle.std.specs.List.{sum_by}
 use Rattle.marks.specs.Marks.{mark_at, set_below}
-use Rattle.marks.proofs.Laws.{count-words, set-below-le}
+use Rattle.marks.proofs.Laws.{count-words, set-below-le, sum_four}
 use Rattle.marks.proofs.count_set.Goals as goal
 use Rattle.marks.proofs.count_set.Goals.{Start}
 
@@ -27,4 +27,5 @@ sum-requires-clause-fits c =
 pub returns : goal.returns
 returns c =
     let summed : c.sum.result ≡ sum_by ones c.args.marks.words = search rules in
-    summed ∙ counted_words (goal.at.returns c).Start
+    let four : length c.args.marks.words ≡ 4 = search rules in
+    omega (arith, summed, counted_words (goal.at.returns c).Start, set-below-le 256 (mark_at c.args.marks), sum_four ones c.args.marks.words four)
